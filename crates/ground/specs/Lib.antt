@@ -1,0 +1,6 @@
+pub mod Replies
+pub mod Cases
+pub mod Tables
+pub mod Fills
+pub mod Copies
+pub mod Whole
