@@ -1,0 +1,53 @@
+-- `bits::window` meets its contract, by the law of three bytes. Assumes nothing.
+use denote.Ref.{now}
+use Rattle.bits.specs.Views.{val-window}
+use borrow.Author.Needs.{needs}
+use Rattle.bits.proofs.window.Statement.{statement}
+use Rattle.bits.proofs.window.Tie as tie
+
+byte-at-requires : tie.Need-byte-at-requires
+byte-at-requires c κs = search needs
+
+mul-result : tie.Need-mul-result
+mul-result c = search needs
+
+add-byte-at : tie.Need-add-byte-at
+add-byte-at c = search needs
+
+byte-at-requires-2 : tie.Need-byte-at-requires-2
+byte-at-requires-2 c κs = search needs
+
+mul-result-2 : tie.Need-mul-result-2
+mul-result-2 c = search needs
+
+add-result : tie.Need-add-result
+add-result c = search needs
+
+add-byte-at-2 : tie.Need-add-byte-at-2
+add-byte-at-2 c = search needs
+
+byte-at-requires-3 : tie.Need-byte-at-requires-3
+byte-at-requires-3 c κs = search needs
+
+add-result-2 : tie.Need-add-result-2
+add-result-2 c = search needs
+
+returns : tie.Need-returns
+returns c =
+    let a = c .before .before .before .before .args in
+    val-window (now (a .s)) (a .i) (c .before .before .byte-at .ensures) (c .before .byte-at2 .ensures) (c .byte-at3 .ensures)
+
+pub window-spec : {M : Type 1} → statement M
+window-spec =
+    tie.close
+    (tie.spec
+    byte-at-requires
+    mul-result
+    add-byte-at
+    byte-at-requires-2
+    mul-result-2
+    add-result
+    add-byte-at-2
+    byte-at-requires-3
+    add-result-2
+    returns)

@@ -1,0 +1,135 @@
+-- `bits::write_bits` meets its contract: the three bytes of the window, changed as one number, lay the bits.
+-- Assumes nothing.
+use denote.Ref.{now}
+use mathlib.Core.Path.{_≡_, ap, _∙_}
+use Prim.Native.Nat.{ℕ, _+_, _-_, _/_, _%_, _≤_, _<_}
+use native.Mathlib.Omega.{arith}
+use lib.ListN.{set}
+use mathlib.Core.List.{List}
+use Rattle.bits.specs.Bits.{word, laid}
+use Rattle.bits.specs.Numbers.{shifted-pos}
+use Rattle.bits.specs.Laid.{made, made-lt, made-laid}
+use borrow.Author.Needs.{needs}
+use Rattle.bits.proofs.write_bits.Statement.{statement}
+use Rattle.bits.proofs.write_bits.Tie as tie
+
+width-requires : tie.Need-width-requires
+width-requires c κs = search needs
+
+sub-h : tie.Need-sub-h
+sub-h c = search needs
+
+sub-m : tie.Need-sub-m
+sub-m c = search needs
+
+window-requires : tie.Need-window-requires
+window-requires c κs = search needs
+
+shr-x : tie.Need-shr-x
+shr-x c = search needs
+
+shl-x : tie.Need-shl-x
+shl-x c = search needs
+
+shl-x-2 : tie.Need-shl-x-2
+shl-x-2 c = search needs
+
+-- the number that is made, at the window that was read
+small : (c : tie.After-window)
+    → made (c .window .result) (24 - c .before .before .before .before .args .place % 8) (24 - c .before .before .before .before .args .place % 8 - c .before .before .width .result)
+    (c .before .before .width .result) (c .before .before .before .before .args .v)
+    < 16777216
+small c =
+    let a = c .before .before .before .before .args in
+    let n = c .before .before .width .result in
+    let few : n ≤ 16 = omega arith in
+    rw (c .window .ensures) (made-lt (now (a .s)) (a .place) n (a .v) few)
+
+rem-x : tie.Need-rem-x
+rem-x c = shifted-pos (c .before .before .width .result) (omega arith)
+
+shl-x-3 : tie.Need-shl-x-3
+shl-x-3 c = search needs
+
+add-x : tie.Need-add-x
+add-x c = omega (arith, small c)
+
+shl-x-4 : tie.Need-shl-x-4
+shl-x-4 c = search needs
+
+rem-x-2 : tie.Need-rem-x-2
+rem-x-2 c = shifted-pos (24 - c .before .before .before .before .args .place % 8 - c .before .before .width .result) (omega arith)
+
+add-x-2 : tie.Need-add-x-2
+add-x-2 c = omega (arith, small c)
+
+cast-set-byte : tie.Need-cast-set-byte
+cast-set-byte c = search needs
+
+set-byte-requires : tie.Need-set-byte-requires
+set-byte-requires c κs = search needs
+
+add-set-byte : tie.Need-add-set-byte
+add-set-byte c = search needs
+
+cast-set-byte-2 : tie.Need-cast-set-byte-2
+cast-set-byte-2 c = search needs
+
+set-byte-requires-2 : tie.Need-set-byte-requires-2
+set-byte-requires-2 c κs = search needs
+
+add-set-byte-2 : tie.Need-add-set-byte-2
+add-set-byte-2 c = search needs
+
+cast-set-byte-3 : tie.Need-cast-set-byte-3
+cast-set-byte-3 c = search needs
+
+set-byte-requires-3 : tie.Need-set-byte-requires-3
+set-byte-requires-3 c κs = search needs
+
+same-length : tie.Need-same-length
+same-length c = search needs
+
+returns : tie.Need-returns
+returns c =
+    let c₁ = c .before .before .before .before .before .before .before .before .before .before in
+    let c₀ = c₁ .before .before .before .before in
+    let a = c₀ .before .before .args in
+    let n = c₀ .width .result in
+    let few : n ≤ 16 = omega arith in
+    let w = c₁ .before .before .window in
+    let x = made (w .result) (24 - a .place % 8) (24 - a .place % 8 - n) n (a .v) in
+    let i = a .place / 8 in
+    c .before .before .set-byte3 .ensures
+    ∙ ap (λ (l : List ℕ). set l (i + 2) (x % 256)) (c .before .before .before .before .before .before .set-byte2 .ensures)
+    ∙ ap (λ (l : List ℕ). set (set l (i + 1) (x / 256 % 256)) (i + 2) (x % 256)) (c₁ .set-byte .ensures)
+    ∙ made-laid (now (a .s)) (a .place) n (a .v) few (λ k. c₀ .before .slice-known .given k .fits) x (ap (λ (z : ℕ). made z (24 - a .place % 8) (24 - a .place % 8 - n) n (a .v)) (w .ensures))
+    ∙ ap (λ (k : ℕ). laid (now (a .s)) (a .place) (word k (a .v))) (c₀ .width .ensures)
+
+pub write-bits-spec : {M : Type 1} → statement M
+write-bits-spec =
+    tie.close
+    (tie.spec
+    width-requires
+    sub-h
+    sub-m
+    window-requires
+    shr-x
+    shl-x
+    shl-x-2
+    rem-x
+    shl-x-3
+    add-x
+    shl-x-4
+    rem-x-2
+    add-x-2
+    cast-set-byte
+    set-byte-requires
+    add-set-byte
+    cast-set-byte-2
+    set-byte-requires-2
+    add-set-byte-2
+    cast-set-byte-3
+    set-byte-requires-3
+    same-length
+    returns)

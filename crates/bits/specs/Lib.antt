@@ -1,0 +1,7 @@
+pub mod Bits
+pub mod Numbers
+pub mod Views
+pub mod Bytes
+pub mod Laid
+pub mod Codings
+pub mod Codecs
