@@ -1,0 +1,83 @@
+-- The words as numbers, for writing: 8 times a word's value, and its length.
+-- Assumes nothing.
+use mathlib.Core.Path.{_≡_, refl, sym, ap, ap₂, _∙_}
+use mathlib.Core.Bool.{Bool}
+use mathlib.Core.List.{List, []}
+use Prim.Native.Nat.{ℕ, zero, suc, _+_, _-_, _*_, _/_, _%_, _^_, _≤_, _<_}
+use native.Mathlib.Omega.{arith}
+use lib.Dec.{T, ltb, ltb→lt}
+use lib.ListN.{length, getD}
+use Rattle.ground.specs.Tables.{every, every-at}
+use Rattle.bits.specs.Bits.{word, val}
+use Rattle.bits.specs.Numbers.{word-val}
+use lib.ListN.{List·getD-eq-default}
+use Rattle.bits.specs.Codings.{Coding, fixed, prefix, wordOf, fit}
+use Rattle.words.specs.Tables.{words, column, coding, columnOf, table16, table20}
+use Rattle.words.specs.Answers.{coding-fixed, coding-found}
+
+unfoldable pub packed : List Bool → ℕ
+packed w = val w * 8 + length w
+
+-- where a column's words begin, all columns one after the other
+unfoldable pub startOf : ℕ → ℕ
+startOf zero = 0
+startOf (suc c) = startOf c + length (words c)
+
+pub start-next : (c : ℕ) → startOf (suc c) ≡ startOf c + length (words c)
+unfolding startOf
+start-next c = refl
+
+-- all columns together have 92 words
+pub start-end : (c : ℕ) → c < 5 → startOf (suc c) ≤ 92
+unfolding startOf words columnOf table16 table20
+start-end zero h = omega arith
+start-end (suc zero) h = omega arith
+start-end (suc (suc zero)) h = omega arith
+start-end (suc (suc (suc zero))) h = omega arith
+start-end (suc (suc (suc (suc zero)))) h = omega arith
+start-end (suc (suc (suc (suc (suc c))))) h = absurd (omega arith)
+
+-- no word has more than seven bits
+short : (c : ℕ) → T (every (λ (v : ℕ) (w : List Bool). ltb (length w) 8) 0 (words c))
+unfolding words columnOf table16 table20 word
+short zero = tt
+short (suc zero) = tt
+short (suc (suc zero)) = tt
+short (suc (suc (suc zero))) = tt
+short (suc (suc (suc (suc n)))) = tt
+
+pub words-short : (c v : ℕ) → v < length (words c) → length (getD (words c) v []) < 8
+words-short c v h = ltb→lt _ _ (every-at (λ (v : ℕ) (w : List Bool). ltb (length w) 8) (words c) [] (short c) v h)
+
+-- the word back from its number
+pub unpacked : (w : List Bool) (e : ℕ) → length w < 8 → e ≡ packed w → word (e % 8) (e / 8) ≡ w
+unfolding packed
+unpacked w e h q =
+    let n : e % 8 ≡ length w = omega arith in
+    let v : e / 8 ≡ val w = omega arith in
+    ap₂ word n v ∙ word-val w
+
+-- ---- what the code finds for a number x of a kind, both as they stand in its wider locals
+
+module _ (kind v k x : ℕ) (q : k ≡ kind) (y : x ≡ v) where
+  pub spelt-fixed : k < 16 → word k x ≡ wordOf (coding kind) v
+  unfolding wordOf
+  spelt-fixed h = ap (word k) y ∙ sym (ap (λ (c : ℕ). wordOf (coding c) v) (sym q) ∙ ap (λ (c : Coding). wordOf c v) (coding-fixed k h))
+
+  pub fit-fixed : k < 16 → ltb x (2 ^ k) ≡ fit (coding kind) v
+  fit-fixed h = ap (λ (z : ℕ). ltb z (2 ^ k)) y ∙ sym (ap (λ (c : ℕ). fit (coding c) v) (sym q) ∙ ap (λ (c : Coding). fit c v) (coding-fixed k h))
+
+  module _ (c : ℕ) (h : 16 ≤ k) (e : column c ≡ column (k - 16)) where
+    column-word : wordOf (coding kind) v ≡ getD (words c) x []
+    unfolding wordOf
+    column-word = ap (λ (z : Coding). wordOf z v) (coding-found kind k c q h e) ∙ ap (λ (z : ℕ). getD (words c) z []) (sym y)
+
+    pub spelt-none : length (words c) ≤ x → word 0 0 ≡ wordOf (coding kind) v
+    unfolding word
+    spelt-none l = sym (column-word ∙ List·getD-eq-default (words c) [] l)
+
+    pub spelt-word : (n : ℕ) → x < length (words c) → n ≡ packed (getD (words c) x []) → word (n % 8) (n / 8) ≡ wordOf (coding kind) v
+    spelt-word n l p = unpacked (getD (words c) x []) n (words-short c x l) p ∙ sym column-word
+
+    pub fit-column : ltb x (length (words c)) ≡ fit (coding kind) v
+    fit-column = ap (λ (z : ℕ). ltb z (length (words c))) y ∙ sym (ap (λ (z : Coding). fit z v) (coding-found kind k c q h e))

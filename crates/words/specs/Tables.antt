@@ -1,0 +1,94 @@
+-- Tables 16 and 20 as they are printed, and the codings that their words make.
+-- Assumes nothing.
+use mathlib.Core.Bool.{Bool, cond}
+use mathlib.Core.List.{List, [], _∷_, _++_, map}
+use Prim.Native.Nat.{ℕ, zero, suc, _-_, _^_}
+use lib.Dec.{T, ltb}
+use lib.ListN.{length, getD, take}
+use Rattle.bits.specs.Bits.{word}
+use Rattle.bits.specs.Codings.{Coding, fixed, prefix, prefixFree, apart, apartAll, Good}
+
+-- Table 16, Huffman code for differential indices: its four columns of eight
+unfoldable pub table16 : List (List Bool)
+table16 =
+    (word 7 0b0011010 ∷ word 7 0b0111010 ∷ word 7 0b1011010 ∷ word 7 0b1111010 ∷ word 7 0b0011011 ∷ word 7 0b0111011 ∷ word 7 0b1011011 ∷ word 7 0b1111011 ∷ [])
+    ++ (word 6 0b001100 ∷ word 6 0b011100 ∷ word 6 0b101100 ∷ word 6 0b111100 ∷ word 4 0b0010 ∷ word 4 0b0110 ∷ word 3 0b100 ∷ word 3 0b110 ∷ [])
+    ++ (word 3 0b000 ∷ word 3 0b010 ∷ word 4 0b1010 ∷ word 4 0b1110 ∷ word 6 0b001110 ∷ word 6 0b011110 ∷ word 6 0b101110 ∷ word 6 0b111110 ∷ [])
+    ++ (word 7 0b0011110 ∷ word 7 0b0111110 ∷ word 7 0b1011110 ∷ word 7 0b1111110 ∷ word 7 0b0011111 ∷ word 7 0b0111111 ∷ word 7 0b1011111 ∷ word 7 0b1111111 ∷ [])
+
+-- Table 20, Huffman code for LVQ2 quantization indices: a row for each index, in it the 2-b, 3-b, 4-b and 5-b word; [] is a blank
+unfoldable pub table20 : List (List (List Bool))
+table20 =
+    (word 1 0b0 ∷ word 2 0b00 ∷ word 2 0b00 ∷ word 2 0b00 ∷ [])
+    ∷ (word 3 0b110 ∷ word 2 0b01 ∷ word 3 0b110 ∷ word 3 0b010 ∷ [])
+    ∷ (word 3 0b111 ∷ word 4 0b1001 ∷ word 4 0b0110 ∷ word 4 0b1000 ∷ [])
+    ∷ (word 2 0b10 ∷ word 5 0b10000 ∷ word 4 0b0111 ∷ word 5 0b10100 ∷ [])
+    ∷ ([] ∷ word 5 0b10001 ∷ word 5 0b10100 ∷ word 5 0b10101 ∷ [])
+    ∷ ([] ∷ word 4 0b1010 ∷ word 5 0b10101 ∷ word 6 0b110000 ∷ [])
+    ∷ ([] ∷ word 4 0b1011 ∷ word 5 0b10110 ∷ word 6 0b110001 ∷ [])
+    ∷ ([] ∷ word 2 0b11 ∷ word 6 0b101110 ∷ word 6 0b110010 ∷ [])
+    ∷ ([] ∷ [] ∷ word 6 0b101111 ∷ word 6 0b110011 ∷ [])
+    ∷ ([] ∷ [] ∷ word 5 0b10000 ∷ word 7 0b1110000 ∷ [])
+    ∷ ([] ∷ [] ∷ word 5 0b10001 ∷ word 7 0b1110001 ∷ [])
+    ∷ ([] ∷ [] ∷ word 5 0b10010 ∷ word 7 0b1110010 ∷ [])
+    ∷ ([] ∷ [] ∷ word 5 0b10011 ∷ word 7 0b1110011 ∷ [])
+    ∷ ([] ∷ [] ∷ word 4 0b0100 ∷ word 7 0b1110100 ∷ [])
+    ∷ ([] ∷ [] ∷ word 4 0b0101 ∷ word 7 0b1110101 ∷ [])
+    ∷ ([] ∷ [] ∷ word 3 0b111 ∷ word 7 0b1110110 ∷ [])
+    ∷ ([] ∷ [] ∷ [] ∷ word 7 0b1110111 ∷ [])
+    ∷ ([] ∷ [] ∷ [] ∷ word 7 0b1111000 ∷ [])
+    ∷ ([] ∷ [] ∷ [] ∷ word 7 0b1111001 ∷ [])
+    ∷ ([] ∷ [] ∷ [] ∷ word 7 0b1111010 ∷ [])
+    ∷ ([] ∷ [] ∷ [] ∷ word 7 0b1111011 ∷ [])
+    ∷ ([] ∷ [] ∷ [] ∷ word 7 0b1111100 ∷ [])
+    ∷ ([] ∷ [] ∷ [] ∷ word 7 0b1111101 ∷ [])
+    ∷ ([] ∷ [] ∷ [] ∷ word 7 0b1111111 ∷ [])
+    ∷ ([] ∷ [] ∷ [] ∷ word 6 0b110100 ∷ [])
+    ∷ ([] ∷ [] ∷ [] ∷ word 6 0b110101 ∷ [])
+    ∷ ([] ∷ [] ∷ [] ∷ word 6 0b110110 ∷ [])
+    ∷ ([] ∷ [] ∷ [] ∷ word 6 0b110111 ∷ [])
+    ∷ ([] ∷ [] ∷ [] ∷ word 5 0b10110 ∷ [])
+    ∷ ([] ∷ [] ∷ [] ∷ word 5 0b10111 ∷ [])
+    ∷ ([] ∷ [] ∷ [] ∷ word 4 0b1001 ∷ [])
+    ∷ ([] ∷ [] ∷ [] ∷ word 3 0b011 ∷ [])
+    ∷ []
+
+-- the words of Table 20's column for a rate of 2 to 5
+unfoldable pub columnOf : ℕ → List (List Bool)
+columnOf rate = map (λ (row : List (List Bool)). getD row (rate - 2) []) (take (2 ^ rate) table20)
+
+-- 01: the 5-bit column has no word 1111110
+unfoldable pub lacking : List (List Bool)
+lacking = word 7 0b1111110 ∷ []
+
+-- columns 0 to 3 are Table 20's for the rates 2 to 5, every further one is Table 16
+unfoldable pub words : ℕ → List (List Bool)
+words zero = columnOf 2
+words (suc zero) = columnOf 3
+words (suc (suc zero)) = columnOf 4
+words (suc (suc (suc zero))) = columnOf 5
+words (suc (suc (suc (suc n)))) = table16
+
+unfoldable pub refused : ℕ → List (List Bool)
+refused zero = []
+refused (suc zero) = []
+refused (suc (suc zero)) = []
+refused (suc (suc (suc zero))) = lacking
+refused (suc (suc (suc (suc n)))) = []
+
+abbrev pub column : ℕ → Coding
+column c = prefix (words c) (refused c)
+
+-- what stands at one place of a frame. Kinds below 16 are as many bits (of 0 bits: an unused place); 16 to 19 the words of rates 2 to 5;
+-- from 20 on the words of Table 16
+unfoldable pub coding : ℕ → Coding
+coding kind = cond (ltb kind 16) (fixed kind) (column (kind - 16))
+
+-- no word of a column begins another, the lacking word among them
+pub free-words : (c : ℕ) → T (prefixFree (words c ++ refused c))
+unfolding words refused lacking columnOf table16 table20 prefixFree apart apartAll word
+free-words zero = tt
+free-words (suc zero) = tt
+free-words (suc (suc zero)) = tt
+free-words (suc (suc (suc zero))) = tt
+free-words (suc (suc (suc (suc n)))) = tt

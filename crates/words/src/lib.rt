@@ -1,0 +1,173 @@
+// The words of a frame: as many bits as a place has, coefficient words (Table 20) and norm words (Table 16), read by one look-up and written.
+ghost use mathlib.Core.Path.{_≡_};
+ghost use Prim.Native.Nat.{ℕ, _+_, _-_, _*_, _≤_, _<_};
+ghost use lib.Dec.{T};
+ghost use lib.ListN.{length, getD};
+ghost use mathlib.Core.List.{[]};
+ghost use Rattle.bits.specs.Bits.{word, view, laid};
+ghost use Rattle.bits.specs.Codings.{unword, wordOf, fit};
+ghost use Rattle.words.specs.Tables.{words, column, coding};
+ghost use Rattle.words.specs.Answers.{placed, wordAt};
+ghost use Rattle.words.specs.Look.{right};
+ghost use Rattle.words.specs.Spell.{packed, startOf};
+use bits::Refusal;
+
+mod tables;
+
+// The kind of a coefficient word is its rate, 2 to 5, more than this; lower kinds are as many bits.
+pub const CODE_WORDS: u8 = 14;
+// The kind of a norm word.
+pub const NORM_WORDS: u8 = 20;
+
+// A number with its next place, or a refusal.
+pub enum Word {
+    At(u16, usize),
+    No(Refusal),
+}
+
+fn wide(x: u8) -> usize
+    ensures { λ r. ⌜ (r ≡ x) × (r < 256) ⌝ }
+{
+    x as usize
+}
+
+fn look(k: usize) -> usize
+    requires { ⌜ k < 640 ⌝ }
+    ensures { λ r. ⌜ T (right k r) × (r < 256) ⌝ }
+{
+    wide(tables::LOOK[k])
+}
+
+// The column of a kind from 16 on.
+fn column_of(kind: usize) -> usize
+    requires { ⌜ 16 ≤ kind ⌝ }
+    ensures { λ r. ⌜ (column r ≡ column (kind - 16)) × (r < 5) ⌝ }
+{
+    if kind < 20 { kind - 16 } else { 4 }
+}
+
+// The word of a column at a place, within the bits that are left.
+fn column_word(s: &[u8], at: usize, left: usize, c: usize) -> Word
+    requires { ⌜ (c < 5) × (at + left < 18446744073709551616) ⌝ }
+    ensures { λ r. ⌜ r ≡ placed at left (unword (column c) (view (now (s .entry)) at left)) ⌝ }
+{
+    let e = look(c * 128 + bits::read_bits(s, at, 7));
+    if e == 0 {
+        if left < 7 {
+            return Word::No(Refusal::Past);
+        }
+        return Word::No(Refusal::Missing);
+    }
+    let n = e % 8;
+    if left < n {
+        return Word::No(Refusal::Past);
+    }
+    Word::At((e / 8) as u16, at + n)
+}
+
+fn minus(a: usize, b: usize) -> usize
+    ensures { λ r. ⌜ r ≡ a - b ⌝ }
+{
+    if b < a { a - b } else { 0 }
+}
+
+// The word of a kind at a place, all of it before the end: the bits from the end on never help to finish a word.
+pub fn word_at(s: &[u8], at: usize, end: usize, kind: u8) -> Word
+    ensures { λ r. ⌜ r ≡ wordAt (now (s .entry)) at end kind ⌝ }
+{
+    let kind = wide(kind);
+    let left = minus(end, at);
+    if 16 <= kind {
+        return column_word(s, at, left, column_of(kind));
+    }
+    if left < kind {
+        return Word::No(Refusal::Past);
+    }
+    Word::At(bits::read_bits(s, at, kind) as u16, at + kind)
+}
+
+fn wide16(x: u16) -> usize
+    ensures { λ r. ⌜ (r ≡ x) × (r < 65536) ⌝ }
+{
+    x as usize
+}
+
+fn start_of(c: usize) -> usize
+    requires { ⌜ c < 6 ⌝ }
+    ensures { λ r. ⌜ (r ≡ startOf c) × (r ≤ 92) ⌝ }
+{
+    wide(tables::STARTS[c])
+}
+
+// How many words a column has.
+fn size_of(c: usize) -> usize
+    requires { ⌜ c < 5 ⌝ }
+    ensures { λ r. ⌜ r ≡ length (words c) ⌝ }
+{
+    start_of(c + 1) - start_of(c)
+}
+
+fn spell(c: usize, v: usize) -> usize
+    requires { ⌜ (c < 5) × (v < length (words c)) ⌝ }
+    ensures { λ r. ⌜ (r ≡ packed (getD (words c) v [])) × (r < 65536) ⌝ }
+{
+    wide16(tables::WORDS[start_of(c) + v])
+}
+
+// A word as so many bits of a number.
+struct Spelling {
+    bits: usize,
+    value: usize,
+}
+
+// The word of a kind for a number; no bits where it has none.
+fn spelt(kind: u8, v: u16) -> Spelling
+    ensures { λ r. ⌜ (word (r .bits) (r .value) ≡ wordOf (coding kind) v) × (r .bits ≤ 16) ⌝ }
+{
+    let kind = wide(kind);
+    let v = wide16(v);
+    if kind < 16 {
+        return Spelling {
+            bits: kind,
+            value: v,
+        };
+    }
+    let c = column_of(kind);
+    if size_of(c) <= v {
+        return Spelling { bits: 0, value: 0 };
+    }
+    let e = spell(c, v);
+    Spelling {
+        bits: e % 8,
+        value: e / 8,
+    }
+}
+
+// Writes the word of a kind for a number at a place, and gives its length. A number without a word is no bits.
+pub fn put_word(s: &mut [u8], at: usize, kind: u8, v: u16) -> usize
+    ensures { λ r. ⌜ (r ≡ length (wordOf (coding kind) v)) × (now (s .exit) ≡ laid (now (s .entry)) at (wordOf (coding kind) v)) ⌝ }
+{
+    let w = spelt(kind, v);
+    bits::write_bits(s, at, w.bits, w.value);
+    w.bits
+}
+
+// The length of the word of a kind for a number.
+pub fn word_bits(kind: u8, v: u16) -> usize
+    ensures { λ r. ⌜ r ≡ length (wordOf (coding kind) v) ⌝ }
+{
+    let w = spelt(kind, v);
+    w.bits
+}
+
+// Whether a number has a word of a kind.
+pub fn has_word(kind: u8, v: u16) -> bool
+    ensures { λ r. ⌜ r ≡ fit (coding kind) v ⌝ }
+{
+    let kind = wide(kind);
+    let v = wide16(v);
+    if kind < 16 {
+        return v < 1 << kind;
+    }
+    v < size_of(column_of(kind))
+}
