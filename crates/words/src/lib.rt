@@ -156,8 +156,8 @@ pub fn put_word(s: &mut [u8], at: usize, kind: u8, v: u16) -> usize
 pub fn word_bits(kind: u8, v: u16) -> usize
     ensures { λ r. ⌜ r ≡ length (wordOf (coding kind) v) ⌝ }
 {
-    let w = spelt(kind, v);
-    w.bits
+    let spelling = spelt(kind, v);
+    spelling.bits
 }
 
 // Whether a number has a word of a kind.

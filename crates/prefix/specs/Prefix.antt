@@ -1,0 +1,135 @@
+-- The prefix byte (A.4.1, Table A.1): its fields, what it says, and the byte of a mode. 01: F before L; R is written 0 and ignored in reading.
+-- Assumes nothing.
+use mathlib.Core.Path.{_≡_, refl, sym, ap, _∙_}
+use mathlib.Core.Bool.{Bool, cond}
+use mathlib.Core.List.{List, [], _∷_}
+use Prim.Native.Nat.{ℕ, _+_, _-_, _*_, _/_, _%_, _≤_, _<_}
+use native.Mathlib.Omega.{arith}
+use lib.Dec.{eqb, ltb}
+use lib.ListN.{length, getD}
+use borrow.Author.Tests.{eq-eqb, ne-eqb, lt-ltb, le-ltb}
+use Rattle.ground.specs.Replies.{done, noByte, marked, reserved, outOfRange, noData}
+use Rattle.prefix.specs.Sizes.{Size, noBody, notGiven, sized, tableA2, lengthBytes, modeBytes, a2-none, a2-low, a2-high, same-size}
+use Rattle.prefix.specs.declared.Length.{Length}
+use Rattle.prefix.specs.declared.Prefix.{Prefix}
+use Rattle.prefix.specs.declared.Prefix.the-variants.{Data, NoData, NoByte, Marked, Reserved}
+use Rattle.prefix.specs.declared.Byte.{Byte}
+use Rattle.prefix.specs.declared.Byte.the-variants.{Is, OutOfRange}
+
+-- ---- the fields, top bit first: F (1 bit), L (5), R (2)
+
+abbrev pub fieldF : ℕ → ℕ
+fieldF b = b / 128
+
+abbrev pub fieldL : ℕ → ℕ
+fieldL b = b / 4 % 32
+
+abbrev pub fieldR : ℕ → ℕ
+fieldR b = b % 4
+
+abbrev pub byteWith : ℕ → ℕ → ℕ → ℕ
+byteWith f l r = 128 * f + 4 * l + r
+
+-- a byte is its three fields
+pub byte-fields : (b : ℕ) → b < 256 → byteWith (fieldF b) (fieldL b) (fieldR b) ≡ b
+byte-fields b h = omega arith
+
+-- ---- reading
+
+abbrev pub said : Size → ℕ → Prefix
+said noBody l = NoData
+said notGiven l = Reserved
+said (sized n) l = Data (record { 0 = l })
+
+unfoldable pub prefixByte : ℕ → Prefix
+prefixByte b = cond (eqb (fieldF b) 1) Marked (said (tableA2 (fieldL b)) (fieldL b))
+
+unfoldable pub prefixOf : List ℕ → Prefix
+prefixOf s = cond (eqb (length s) 0) NoByte (prefixByte (getD s 0 0))
+
+-- 01's number and values for each case; only 0 and 14 give a next place
+pub record Reading : Type 0 where
+  pub reply : ℕ
+  pub field : ℕ
+  pub bytes : ℕ
+  pub next : ℕ
+
+abbrev pub readingOf : Prefix → Reading
+readingOf (Data l) = record { reply = done; field = l .0; bytes = lengthBytes (l .0); next = 1 }
+readingOf NoData = record { reply = noData; field = 0; bytes = 0; next = 1 }
+readingOf NoByte = record { reply = noByte; field = 0; bytes = 0; next = 0 }
+readingOf Marked = record { reply = marked; field = 0; bytes = 0; next = 0 }
+readingOf Reserved = record { reply = reserved; field = 0; bytes = 0; next = 0 }
+
+-- ---- writing
+
+unfoldable pub byteOf : ℕ → Byte
+byteOf m = cond (ltb m 20) (Is (byteWith 0 (m + 8) 0)) OutOfRange
+
+pub record Writing : Type 0 where
+  pub reply : ℕ
+  pub byte : ℕ
+
+abbrev pub writingOf : Byte → Writing
+writingOf (Is b) = record { reply = done; byte = b }
+writingOf OutOfRange = record { reply = outOfRange; byte = 0 }
+
+-- ---- the laws
+
+pub read-none : (s : List ℕ) → length s ≡ 0 → prefixOf s ≡ NoByte
+unfolding prefixOf
+read-none s h = rw (eq-eqb (length s) 0 h)
+
+pub read-some : (s : List ℕ) → 0 < length s → prefixOf s ≡ prefixByte (getD s 0 0)
+unfolding prefixOf
+read-some s h = rw (ne-eqb (length s) 0 (λ e. omega arith))
+
+pub byte-marked : (b : ℕ) → 128 ≤ b → b < 256 → prefixByte b ≡ Marked
+unfolding prefixByte
+byte-marked b p h = rw (eq-eqb (fieldF b) 1 (omega arith))
+
+pub byte-said : (b : ℕ) → b < 128 → prefixByte b ≡ said (tableA2 (b / 4)) (b / 4)
+unfolding prefixByte
+byte-said b h =
+    let e : fieldL b ≡ b / 4 = omega arith in
+    rw (ne-eqb (fieldF b) 1 (λ z. omega arith), e)
+
+pub read-said : (s : List ℕ) → 0 < length s → getD s 0 0 < 128 → prefixOf s ≡ said (tableA2 (getD s 0 0 / 4)) (getD s 0 0 / 4)
+read-said s h l = read-some s h ∙ byte-said (getD s 0 0) l
+
+pub said-none : (l : ℕ) → l ≡ 0 → said (tableA2 l) l ≡ NoData
+said-none l e = rw (e, a2-none)
+
+pub said-low : (l : ℕ) → 0 < l → l < 8 → said (tableA2 l) l ≡ Reserved
+said-low l p h = rw (a2-low l p h)
+
+pub said-high : (l : ℕ) → 27 < l → said (tableA2 l) l ≡ Reserved
+said-high l h = rw (a2-high l h)
+
+pub said-data : (l : ℕ) → 8 ≤ l → l ≤ 27 → said (tableA2 l) l ≡ Data (record { 0 = l })
+said-data l p h =
+    let e : l - 8 + 8 ≡ l = omega arith in
+    ap (λ (z : Size). said z l) (ap tableA2 (sym e) ∙ same-size (l - 8) (omega arith))
+
+-- R is ignored: bytes that agree in F and L say the same
+pub r-ignored : (f l r q : ℕ) → l < 32 → r < 4 → q < 4 → prefixByte (byteWith f l r) ≡ prefixByte (byteWith f l q)
+unfolding prefixByte
+r-ignored f l r q h hr hq =
+    let e₁ : fieldF (byteWith f l r) ≡ fieldF (byteWith f l q) = omega arith in
+    let e₂ : fieldL (byteWith f l r) ≡ fieldL (byteWith f l q) = omega arith in
+    rw (e₁, e₂)
+
+-- read after write: the byte of a mode says the field L of the same size
+pub read-written : (m : ℕ) (s : List ℕ) → m < 20 → prefixOf (byteWith 0 (m + 8) 0 ∷ s) ≡ Data (record { 0 = m + 8 })
+read-written m s h =
+    let b = byteWith 0 (m + 8) 0 in
+    let e : b / 4 ≡ m + 8 = omega arith in
+    read-some (b ∷ s) (omega arith) ∙ byte-said b (omega arith) ∙ ap (λ (l : ℕ). said (tableA2 l) l) e ∙ said-data (m + 8) (omega arith) (omega arith)
+
+pub byte-mode : (m : ℕ) → m < 20 → byteOf m ≡ Is (byteWith 0 (m + 8) 0)
+unfolding byteOf
+byte-mode m h = rw (lt-ltb m 20 h)
+
+pub byte-none : (m : ℕ) → 19 < m → byteOf m ≡ OutOfRange
+unfolding byteOf
+byte-none m h = rw (le-ltb m 20 h)
