@@ -4,3 +4,4 @@ pub mod Tables
 pub mod Fills
 pub mod Copies
 pub mod Whole
+pub mod Indices

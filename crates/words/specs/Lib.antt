@@ -2,3 +2,5 @@ pub mod Tables
 pub mod Answers
 pub mod Look
 pub mod Spell
+pub mod Runs
+pub mod Writes

@@ -9,11 +9,13 @@ use lib.Dec.{T, ltb, ltb→lt}
 use lib.ListN.{length, getD}
 use Rattle.ground.specs.Tables.{every, every-at}
 use Rattle.bits.specs.Bits.{word, val}
-use Rattle.bits.specs.Numbers.{word-val}
+use Rattle.bits.specs.Numbers.{word-val, length-word}
+use Rattle.ground.specs.Cases.{by-bool}
+use borrow.Author.Tests.{ltb-true, ltb-false}
 use lib.ListN.{List·getD-eq-default}
 use Rattle.bits.specs.Codings.{Coding, fixed, prefix, wordOf, fit}
 use Rattle.words.specs.Tables.{words, column, coding, columnOf, table16, table20}
-use Rattle.words.specs.Answers.{coding-fixed, coding-found}
+use Rattle.words.specs.Answers.{coding-fixed, coding-column, coding-found}
 
 unfoldable pub packed : List Bool → ℕ
 packed w = val w * 8 + length w
@@ -57,6 +59,14 @@ unpacked w e h q =
     let v : e / 8 ≡ val w = omega arith in
     ap₂ word n v ∙ word-val w
 
+pub word-fixed : (n v : ℕ) → wordOf (fixed n) v ≡ word n v
+unfolding wordOf
+word-fixed n v = refl
+
+pub word-column : (c v : ℕ) → wordOf (column c) v ≡ getD (words c) v []
+unfolding wordOf
+word-column c v = refl
+
 -- ---- what the code finds for a number x of a kind, both as they stand in its wider locals
 
 module _ (kind v k x : ℕ) (q : k ≡ kind) (y : x ≡ v) where
@@ -68,16 +78,27 @@ module _ (kind v k x : ℕ) (q : k ≡ kind) (y : x ≡ v) where
   fit-fixed h = ap (λ (z : ℕ). ltb z (2 ^ k)) y ∙ sym (ap (λ (c : ℕ). fit (coding c) v) (sym q) ∙ ap (λ (c : Coding). fit c v) (coding-fixed k h))
 
   module _ (c : ℕ) (h : 16 ≤ k) (e : column c ≡ column (k - 16)) where
-    column-word : wordOf (coding kind) v ≡ getD (words c) x []
+    the-word : wordOf (coding kind) v ≡ getD (words c) x []
     unfolding wordOf
-    column-word = ap (λ (z : Coding). wordOf z v) (coding-found kind k c q h e) ∙ ap (λ (z : ℕ). getD (words c) z []) (sym y)
+    the-word = ap (λ (z : Coding). wordOf z v) (coding-found kind k c q h e) ∙ ap (λ (z : ℕ). getD (words c) z []) (sym y)
 
     pub spelt-none : length (words c) ≤ x → word 0 0 ≡ wordOf (coding kind) v
     unfolding word
-    spelt-none l = sym (column-word ∙ List·getD-eq-default (words c) [] l)
+    spelt-none l = sym (the-word ∙ List·getD-eq-default (words c) [] l)
 
     pub spelt-word : (n : ℕ) → x < length (words c) → n ≡ packed (getD (words c) x []) → word (n % 8) (n / 8) ≡ wordOf (coding kind) v
-    spelt-word n l p = unpacked (getD (words c) x []) n (words-short c x l) p ∙ sym column-word
+    spelt-word n l p = unpacked (getD (words c) x []) n (words-short c x l) p ∙ sym the-word
 
     pub fit-column : ltb x (length (words c)) ≡ fit (coding kind) v
     fit-column = ap (λ (z : ℕ). ltb z (length (words c))) y ∙ sym (ap (λ (z : Coding). fit z v) (coding-found kind k c q h e))
+
+-- no word has more than 16 bits
+pub word-few : (kind v : ℕ) → length (wordOf (coding kind) v) ≤ 16
+unfolding wordOf
+word-few kind v =
+    by-bool (ltb kind 16)
+    (λ e. let h = ltb-true kind 16 e in rw (coding-fixed kind h) (omega (arith, length-word kind v)))
+    (λ e. let h = ltb-false kind 16 e in
+    by-bool (ltb v (length (words (kind - 16))))
+    (λ f. rw (coding-column kind h) (omega (arith, words-short (kind - 16) v (ltb-true v _ f))))
+    (λ f. rw (coding-column kind h, List·getD-eq-default (words (kind - 16)) [] (ltb-false v _ f)) (omega arith)))

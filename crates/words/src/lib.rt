@@ -12,6 +12,7 @@ ghost use Rattle.words.specs.Look.{right};
 ghost use Rattle.words.specs.Spell.{packed, startOf};
 use bits::Refusal;
 
+pub mod runs;
 mod tables;
 
 // The kind of a coefficient word is its rate, 2 to 5, more than this; lower kinds are as many bits.

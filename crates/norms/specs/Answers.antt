@@ -1,0 +1,50 @@
+-- What the calls on norms answer.
+-- Assumes nothing.
+use mathlib.Core.Path.{_≡_, refl, sym, ap, _∙_}
+use mathlib.Core.Bool.{Bool, true, false, cond, _&&_}
+use mathlib.Core.List.{List, [], _∷_, map}
+use Prim.Native.Nat.{ℕ, _+_, _-_, _≤_, _<_}
+use lib.Dec.{leb, ltb, eqb}
+use lib.ListN.{length, getD, drop, replicate}
+use Rattle.ground.specs.Indices.{inRange}
+use Rattle.ground.specs.Replies.{done, outOfRange, farApart}
+use Rattle.bits.specs.Codings.{Answer, got, no, replyOf}
+use Rattle.bits.specs.Codecs.{Check, fine, bad, writeAll}
+use Rattle.words.specs.Tables.{coding}
+use Rattle.norms.specs.Order.{sent, banded}
+use Rattle.norms.specs.Steps.{stepsClose}
+use Rattle.norms.specs.Legal.{legalOf}
+use Rattle.norms.specs.Part.{numbersOf}
+use Rattle.norms.specs.declared.NormPart.{NormPart}
+use Rattle.norms.specs.declared.Legal.{Legal}
+use Rattle.norms.specs.declared.Choice.{Choice}
+use Rattle.norms.specs.declared.Indices.{Indices}
+
+-- a reading that began at `at` with `left` bits to read
+abbrev pub partOf : ℕ → ℕ → Answer (List ℕ) → NormPart
+partOf at left (got norms r) = record { reply = done; next = at + (left - length r); norms = norms }
+partOf at left (no x) = record { reply = replyOf x; next = 0; norms = replicate 44 0 }
+
+abbrev pub indicesOf : Check (List ℕ) → Indices
+indicesOf (fine ss) = record { sound = true; norms = ss }
+indicesOf (bad x) = record { sound = false; norms = replicate 44 0 }
+
+-- 8: an index over 39 or a first one over 31; 9: a difference outside −15 to 16
+unfoldable pub normReply : Bool → List ℕ → ℕ
+normReply transient norms =
+    cond (inRange norms 44 && leb (getD norms 0 0) 31) (cond (stepsClose (sent transient norms)) done farApart) outOfRange
+
+-- the bits of the 43 words of Table 16, without the first index
+unfoldable pub wordTotal : Bool → List ℕ → ℕ
+wordTotal transient norms = length (writeAll (map coding (replicate 43 20)) (drop 1 (numbersOf transient norms)))
+
+abbrev pub chosen : ℕ → Bool → Choice
+chosen reply flag = cond (eqb reply 0) (record { reply = done; flag = flag }) (record { reply = reply; flag = false })
+
+-- FlagN is chosen 1 exactly when the 43 words total under 215 bits
+unfoldable pub choiceOf : Bool → List ℕ → Choice
+choiceOf transient norms = chosen (normReply transient norms) (ltb (wordTotal transient norms) 215)
+
+unfoldable pub legalised : Bool → List ℕ → Legal
+legalised transient norms =
+    cond (inRange norms 44) (record { reply = done; norms = legalOf transient norms }) (record { reply = outOfRange; norms = replicate 44 0 })

@@ -1,0 +1,325 @@
+// The 44 norm indices as they stand in a frame: sent order, reading, writing, legalising, and the FlagN choice (7.4, 8.2).
+ghost use mathlib.Core.Path.{_≡_};
+ghost use Prim.Native.Nat.{ℕ, _+_, _-_, _≤_, _<_, min};
+ghost use lib.ListN.{length, getD};
+ghost use Rattle.bits.specs.Bits.{view, laid};
+ghost use Rattle.ground.specs.Fills.{table};
+ghost use Rattle.norms.specs.Order.{order, places, sent, banded};
+ghost use Rattle.norms.specs.Steps.{indices, numbers, stepsClose};
+ghost use Rattle.norms.specs.Legal.{capped, lowered, held, legalSent};
+ghost use Rattle.norms.specs.Part.{normKinds, normPart, normBits};
+ghost use Rattle.norms.specs.Answers.{partOf, indicesOf, normReply, choiceOf, legalised};
+use ground::replies::DONE;
+use ground::replies::FAR_APART;
+use ground::replies::NORM_OUTSIDE;
+use ground::replies::OUT_OF_RANGE;
+use words::runs::Run;
+
+mod tables;
+
+// What reading the norm part answers: 0 with the next place and the norms in band order, or 5 or 7 with zeros.
+pub struct NormPart {
+    pub reply: u8,
+    pub next: usize,
+    pub norms: [u8; 44],
+}
+
+// What legalising answers: 0 with the legal norms in band order, or 8 with zeros.
+pub struct Legal {
+    pub reply: u8,
+    pub norms: [u8; 44],
+}
+
+// What a choice of a flag answers.
+pub struct Choice {
+    pub reply: u8,
+    pub flag: bool,
+}
+
+struct Indices {
+    sound: bool,
+    norms: [u8; 44],
+}
+
+fn place_of(b: usize) -> usize
+    requires { ⌜ b < 44 ⌝ }
+    ensures { λ r. ⌜ (r ≡ getD places b 0) × (r < 44) ⌝ }
+{
+    tables::PLACES[b]
+}
+
+fn band_of(i: usize) -> usize
+    requires { ⌜ i < 44 ⌝ }
+    ensures { λ r. ⌜ (r ≡ getD order i 0) × (r < 44) ⌝ }
+{
+    tables::ORDER[i]
+}
+
+// From band order to sent order.
+pub fn sent_order(transient: bool, norms: [u8; 44]) -> [u8; 44]
+    ensures { λ r. ⌜ r ≡ sent transient norms ⌝ }
+{
+    if !transient {
+        return norms;
+    }
+    let mut out = [0u8; 44];
+    let mut i: usize = 0;
+    while i < 44 {
+        out[i] = norms[band_of(i)];
+        i += 1;
+    }
+    out
+}
+
+// From sent order to band order.
+pub fn band_order(transient: bool, ss: [u8; 44]) -> [u8; 44]
+    ensures { λ r. ⌜ r ≡ banded transient ss ⌝ }
+{
+    if !transient {
+        return ss;
+    }
+    let mut out = [0u8; 44];
+    let mut b: usize = 0;
+    while b < 44 {
+        out[b] = ss[place_of(b)];
+        b += 1;
+    }
+    out
+}
+
+fn wide(x: u8) -> u16
+    ensures { λ r. ⌜ (r ≡ x) × (r < 256) ⌝ }
+{
+    x as u16
+}
+
+fn wide16(x: u16) -> usize
+    ensures { λ r. ⌜ (r ≡ x) × (r < 65536) ⌝ }
+{
+    x as usize
+}
+
+fn minus(a: u16, b: u16) -> u16
+    ensures { λ r. ⌜ r ≡ a - b ⌝ }
+{
+    if b < a { a - b } else { 0 }
+}
+
+fn smaller(a: u8, b: u8) -> u8
+    ensures { λ r. ⌜ r ≡ min a b ⌝ }
+{
+    if a < b { a } else { b }
+}
+
+// The indices in sent order from the numbers sent; unsound where one leaves 0 to 39.
+fn indices_of(ws: [u16; 44]) -> Indices
+    ensures { λ r. ⌜ r ≡ indicesOf (indices 15 ws) ⌝ }
+{
+    let mut norms = [0u8; 44];
+    let mut x: usize = 15;
+    let mut i: usize = 0;
+    while i < 44 {
+        let y = x + wide16(ws[i]);
+        if y < 15 {
+            return Indices {
+                sound: false,
+                norms: [0u8; 44],
+            };
+        }
+        if 54 < y {
+            return Indices {
+                sound: false,
+                norms: [0u8; 44],
+            };
+        }
+        x = y - 15;
+        norms[i] = x as u8;
+        i += 1;
+    }
+    Indices { sound: true, norms }
+}
+
+// The numbers sent for indices in sent order.
+fn numbers_of(ss: [u8; 44]) -> [u16; 44]
+    ensures { λ r. ⌜ r ≡ numbers 15 ss ⌝ }
+{
+    let mut out = [0u16; 44];
+    let mut x: u16 = 15;
+    let mut i: usize = 0;
+    while i < 44 {
+        let y = wide(ss[i]);
+        out[i] = minus(y + 15, x);
+        x = y;
+        i += 1;
+    }
+    out
+}
+
+// 5 bits for the first number, and for the others 5 bits or a norm word.
+fn norm_kinds(flag_n: bool) -> [u8; 44]
+    ensures { λ r. ⌜ r ≡ normKinds flag_n ⌝ }
+{
+    if !flag_n {
+        return [5u8; 44];
+    }
+    let mut kinds = [words::NORM_WORDS; 44];
+    kinds[0] = 5;
+    kinds
+}
+
+// The norm part at a place, all of it before the end.
+pub fn read_norms(s: &[u8], at: usize, end: usize, transient: bool, flag_n: bool) -> NormPart
+    ensures { λ r. ⌜ r ≡ partOf at (end - at) (normPart transient flag_n .read (view (now (s .entry)) at (end - at))) ⌝ }
+{
+    let mut ws = [0u16; 44];
+    let kinds = norm_kinds(flag_n);
+    let run = words::runs::read_words(s, at, end, &kinds, &mut ws);
+    let Run::Done(next) = run else {
+        return NormPart {
+            reply: words::runs::run_reply(run),
+            next: 0,
+            norms: [0u8; 44],
+        };
+    };
+    let found = indices_of(ws);
+    let sound = found.sound;
+    if !sound {
+        return NormPart {
+            reply: NORM_OUTSIDE,
+            next: 0,
+            norms: [0u8; 44],
+        };
+    }
+    let ss = found.norms;
+    let norms = band_order(transient, ss);
+    NormPart {
+        reply: DONE,
+        next,
+        norms,
+    }
+}
+
+// Writes the norm part at a place, and gives how many bits it has.
+pub fn write_norms(s: &mut [u8], at: usize, transient: bool, flag_n: bool, norms: [u8; 44]) -> usize
+    requires { ⌜ at < 4294967296 ⌝ }
+    ensures { λ r. ⌜ (r ≡ length (normBits transient flag_n norms)) × (now (s .exit) ≡ laid (now (s .entry)) at (normBits transient flag_n norms)) ⌝ }
+{
+    let kinds = norm_kinds(flag_n);
+    let ws = numbers_of(sent_order(transient, norms));
+    words::runs::write_words(s, at, &kinds, &ws)
+}
+
+// How many bits the norm part has.
+pub fn norm_bits(transient: bool, flag_n: bool, norms: [u8; 44]) -> usize
+    ensures { λ r. ⌜ r ≡ length (normBits transient flag_n norms) ⌝ }
+{
+    let kinds = norm_kinds(flag_n);
+    let ws = numbers_of(sent_order(transient, norms));
+    words::runs::run_bits(&kinds, &ws)
+}
+
+// Whether each difference of indices in sent order is -15 to 16.
+fn steps_close(ss: [u8; 44]) -> bool
+    ensures { λ r. ⌜ r ≡ stepsClose ss ⌝ }
+{
+    let mut i: usize = 0;
+    while i < 43 {
+        let x = wide(ss[i]);
+        let y = wide(ss[i + 1]);
+        if y + 15 < x {
+            return false;
+        }
+        if x + 16 < y {
+            return false;
+        }
+        i += 1;
+    }
+    true
+}
+
+// Whether norms can be written: 8 for an index over 39 or a first one over 31, then 9 for a difference outside -15 to 16, else 0.
+pub fn norm_reply(transient: bool, norms: [u8; 44]) -> u8
+    ensures { λ r. ⌜ r ≡ normReply transient norms ⌝ }
+{
+    if !ground::indices::in_range(&norms) {
+        return OUT_OF_RANGE;
+    }
+    if 31 < norms[0] {
+        return OUT_OF_RANGE;
+    }
+    if steps_close(sent_order(transient, norms)) {
+        return DONE;
+    }
+    FAR_APART
+}
+
+// FlagN: 1 exactly when the 43 words total under 215 bits; with the first index's five bits that is under 220.
+pub fn choose_flag_n(transient: bool, norms: [u8; 44]) -> Choice
+    ensures { λ r. ⌜ r ≡ choiceOf transient norms ⌝ }
+{
+    let reply = norm_reply(transient, norms);
+    if reply != DONE {
+        return Choice { reply, flag: false };
+    }
+    Choice {
+        reply: DONE,
+        flag: norm_bits(transient, true, norms) < 220,
+    }
+}
+
+fn cap(ss: [u8; 44]) -> [u8; 44]
+    ensures { λ r. ⌜ r ≡ capped ss ⌝ }
+{
+    let mut out = ss;
+    out[0] = smaller(ss[0], 31);
+    out
+}
+
+// Last pair to first: an index more than 15 above its successor becomes successor + 15.
+fn lower(ss: [u8; 44]) -> [u8; 44]
+    requires { ⌜ ((k : ℕ) → getD ss k 0 ≤ 39) ⌝ }
+    ensures { λ r. ⌜ (r ≡ lowered ss) × ((k : ℕ) → getD r k 0 ≤ 39) ⌝ }
+{
+    let mut last = ss[43];
+    let mut out = [last; 44];
+    let mut i: usize = 43;
+    while 0 < i {
+        i -= 1;
+        last = smaller(ss[i], last + 15);
+        out[i] = last;
+    }
+    out
+}
+
+// First to last: an index more than 16 above its predecessor becomes predecessor + 16.
+fn hold(ss: [u8; 44]) -> [u8; 44]
+    requires { ⌜ ((k : ℕ) → getD ss k 0 ≤ 39) ⌝ }
+    ensures { λ r. ⌜ r ≡ held ss ⌝ }
+{
+    let mut last = ss[0];
+    let mut out = [last; 44];
+    let mut i: usize = 0;
+    while i < 43 {
+        i += 1;
+        last = smaller(ss[i], last + 16);
+        out[i] = last;
+    }
+    out
+}
+
+// Legal norms in band order; 8 for an index over 39. A first index over 31 is not refused: it becomes 31.
+pub fn legalise(transient: bool, norms: [u8; 44]) -> Legal
+    ensures { λ r. ⌜ r ≡ legalised transient norms ⌝ }
+{
+    if !ground::indices::in_range(&norms) {
+        return Legal {
+            reply: OUT_OF_RANGE,
+            norms: [0u8; 44],
+        };
+    }
+    let legal = hold(lower(cap(sent_order(transient, norms))));
+    Legal {
+        reply: DONE,
+        norms: band_order(transient, legal),
+    }
+}
