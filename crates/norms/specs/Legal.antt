@@ -74,7 +74,7 @@ fallen-last : (ss : List ℕ) → fallen ss 0 ≡ getD ss 43 0
 unfolding fallen
 fallen-last ss = refl
 
-fallen-le : (ss : List ℕ) (i : ℕ) → i < 44 → fallen ss (43 - i) ≤ getD ss i 0
+pub fallen-le : (ss : List ℕ) (i : ℕ) → i < 44 → fallen ss (43 - i) ≤ getD ss i 0
 fallen-le ss i h =
     elim (ℕ-discrete i 43) [
       | yes e ↦ rw e (omega (arith, fallen-last ss))
@@ -99,10 +99,14 @@ capped-first : (ss : List ℕ) → 0 < length ss → getD (capped ss) 0 0 ≡ mi
 unfolding capped
 capped-first ss h = getD-set-same ss 0 (min (getD ss 0 0) 31) 0 h
 
-capped-le : (ss : List ℕ) (i : ℕ) → 0 < length ss → getD (capped ss) i 0 ≤ getD ss i 0
+pub capped-le : (ss : List ℕ) (i : ℕ) → 0 < length ss → getD (capped ss) i 0 ≤ getD ss i 0
 unfolding capped
 capped-le ss zero h = omega (arith, capped-first ss h)
 capped-le ss (suc i) h = omega (arith, getD-set-other ss 0 (suc i) (min (getD ss 0 0) 31) 0 (λ e. omega arith))
+
+pub length-capped : (ss : List ℕ) → length (capped ss) ≡ length ss
+unfolding capped
+length-capped ss = length-set ss 0 (min (getD ss 0 0) 31)
 
 -- ---- the result is writable
 

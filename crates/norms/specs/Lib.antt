@@ -2,4 +2,6 @@ pub mod Order
 pub mod Steps
 pub mod Legal
 pub mod Part
+pub mod Loops
 pub mod Answers
+pub mod Reads

@@ -40,6 +40,23 @@ unfoldable pub banded : Bool → List ℕ → List ℕ
 banded false ss = ss
 banded true ss = table 44 (pick places ss)
 
+-- by the test of the kind of frame
+pub sent-plain : (transient : Bool) (norms : List ℕ) → transient ≡ false → norms ≡ sent transient norms
+unfolding sent
+sent-plain transient norms e = rw e
+
+pub sent-turned : (transient : Bool) (norms : List ℕ) → transient ≡ true → table 44 (pick order norms) ≡ sent transient norms
+unfolding sent
+sent-turned transient norms e = rw e
+
+pub banded-plain : (transient : Bool) (ss : List ℕ) → transient ≡ false → ss ≡ banded transient ss
+unfolding banded
+banded-plain transient ss e = rw e
+
+pub banded-turned : (transient : Bool) (ss : List ℕ) → transient ≡ true → table 44 (pick places ss) ≡ banded transient ss
+unfolding banded
+banded-turned transient ss e = rw e
+
 -- ---- a permutation of 0–43, and its inverse
 
 undoes : List ℕ → ℕ → ℕ → Bool

@@ -94,6 +94,14 @@ pub kinds-long : (flagN : Bool) → length (normKinds flagN) ≡ 44
 unfolding normKinds
 kinds-long flagN = refl
 
+pub kinds-plain : (flagN : Bool) → flagN ≡ false → replicate 44 5 ≡ normKinds flagN
+unfolding normKinds
+kinds-plain flagN e = rw e
+
+pub kinds-words : (flagN : Bool) → flagN ≡ true → 5 ∷ replicate 43 20 ≡ normKinds flagN
+unfolding normKinds
+kinds-words flagN e = rw e
+
 -- ---- the codec
 
 module _ (transient flagN : Bool) where

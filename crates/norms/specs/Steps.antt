@@ -127,3 +127,8 @@ pub near-first : (ss : List ℕ) → 0 < length ss → ((i : ℕ) → i < length
 unfolding stepsClose
 near-first [] p h f c = absurd (omega arith)
 near-first (y ∷ ys) p h f c = (h 0 (omega arith), omega arith, omega arith, near-close y ys (λ i l. h (suc i) (omega arith)) c)
+
+pub steps-near : (ss : List ℕ) → Near 15 ss → stepsClose ss ≡ true
+unfolding stepsClose close
+steps-near [] n = refl
+steps-near (y ∷ ys) n = close-near y ys (n .3)

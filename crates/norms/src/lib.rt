@@ -157,7 +157,7 @@ fn numbers_of(ss: [u8; 44]) -> [u16; 44]
 
 // 5 bits for the first number, and for the others 5 bits or a norm word.
 fn norm_kinds(flag_n: bool) -> [u8; 44]
-    ensures { λ r. ⌜ r ≡ normKinds flag_n ⌝ }
+    ensures { λ r. ⌜ r ≡ normKinds «flag_n» ⌝ }
 {
     if !flag_n {
         return [5u8; 44];
@@ -169,7 +169,7 @@ fn norm_kinds(flag_n: bool) -> [u8; 44]
 
 // The norm part at a place, all of it before the end.
 pub fn read_norms(s: &[u8], at: usize, end: usize, transient: bool, flag_n: bool) -> NormPart
-    ensures { λ r. ⌜ r ≡ partOf at (end - at) (normPart transient flag_n .read (view (now (s .entry)) at (end - at))) ⌝ }
+    ensures { λ r. ⌜ r ≡ partOf at (end - at) (normPart transient «flag_n» .read (view (now (s .entry)) at (end - at))) ⌝ }
 {
     let mut ws = [0u16; 44];
     let kinds = norm_kinds(flag_n);
@@ -202,7 +202,7 @@ pub fn read_norms(s: &[u8], at: usize, end: usize, transient: bool, flag_n: bool
 // Writes the norm part at a place, and gives how many bits it has.
 pub fn write_norms(s: &mut [u8], at: usize, transient: bool, flag_n: bool, norms: [u8; 44]) -> usize
     requires { ⌜ at < 4294967296 ⌝ }
-    ensures { λ r. ⌜ (r ≡ length (normBits transient flag_n norms)) × (now (s .exit) ≡ laid (now (s .entry)) at (normBits transient flag_n norms)) ⌝ }
+    ensures { λ r. ⌜ (r ≡ length (normBits transient «flag_n» norms)) × (now (s .exit) ≡ laid (now (s .entry)) at (normBits transient «flag_n» norms)) ⌝ }
 {
     let kinds = norm_kinds(flag_n);
     let ws = numbers_of(sent_order(transient, norms));
@@ -211,7 +211,7 @@ pub fn write_norms(s: &mut [u8], at: usize, transient: bool, flag_n: bool, norms
 
 // How many bits the norm part has.
 pub fn norm_bits(transient: bool, flag_n: bool, norms: [u8; 44]) -> usize
-    ensures { λ r. ⌜ r ≡ length (normBits transient flag_n norms) ⌝ }
+    ensures { λ r. ⌜ r ≡ length (normBits transient «flag_n» norms) ⌝ }
 {
     let kinds = norm_kinds(flag_n);
     let ws = numbers_of(sent_order(transient, norms));

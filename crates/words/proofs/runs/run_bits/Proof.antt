@@ -31,7 +31,7 @@ word-bits-requires : tie.Need-word-bits-requires Inv-loop μ-loop
 word-bits-requires c κs = search needs
 
 add-n : tie.Need-add-n Inv-loop μ-loop
-add-n c = 
+add-n c =
     let l = c .before .before .before .before in
     let a = l .before .before .before .args in
     let i = l .loop .i in
@@ -44,7 +44,7 @@ loop-less : tie.Need-loop-less Inv-loop μ-loop
 loop-less c = omega arith
 
 loop-again : tie.Need-loop-again Inv-loop μ-loop
-loop-again c = 
+loop-again c =
     let l = c .before .before .before .before in
     let a = l .before .before .before .args in
     let i = l .loop .i in
@@ -52,7 +52,7 @@ loop-again c =
     (omega (arith, word-few (getD (now (a .kinds)) i 0) (getD (now (a .numbers)) i 0), c .word-bits .ensures)) (c .word-bits .ensures)
 
 returns : tie.Need-returns Inv-loop μ-loop
-returns c = 
+returns c =
     let l = c .before in
     let a = l .before .before .before .args in
     counted (now (a .kinds)) (now (a .numbers)) (l .loop .n) (l .loop .i) (l .loop .inv) (c .loop-test .left)
