@@ -4,3 +4,5 @@ pub mod Tables
 pub mod Fills
 pub mod Copies
 pub mod Whole
+pub mod Order
+pub mod Sums
