@@ -2,40 +2,33 @@
 -- Assumes nothing.
 use mathlib.Core.Path.{_≡_, refl, sym, ap, _∙_, subst}
 use mathlib.Core.Bool.{Bool, true, false, cond, _||_}
-use mathlib.Core.List.{List, [], _∷_}
-use Prim.Native.Nat.{ℕ, _+_, _-_, _*_, _≤_, _<_}
+use mathlib.Core.List.{List}
+use Prim.Native.Nat.{ℕ, _%_, _+_, _-_, _*_, _≤_, _<_}
 use native.Mathlib.Omega.{arith}
-use lib.Dec.{leb, eqb, ltb, leb→le, eqb→eq}
+use lib.Dec.{ltb}
 use lib.ListN.{length}
 use Rattle.ground.specs.Cases.{by-bool}
 use Rattle.ground.specs.Fills.{table, getD-table, length-from, filled}
 use Rattle.ground.specs.Sums.{nth}
-use Rattle.ground.specs.Tables.{every, every-at}
 use Rattle.contest.specs.Bands.{lengthOf, competing}
 use Rattle.contest.specs.Raised.{Band, Game, at, contest, begin, fresh}
 use Rattle.contest.proofs.Promise.{start-at, start-left, able-start}
 use Rattle.levels.specs.declared.Ends.{Ends}
 use Rattle.levels.specs.Offers.{spot, state, Flat}
-use Rattle.levels.specs.Levels.{climb, bill, bidAt, Finished, keyOf, keysOf, Room, endOf, settled}
+use Rattle.levels.specs.Levels.{climb, bill, bidAt, Finished, Keyed, keyOf, keysOf, Room, endOf, settled}
 use Rattle.levels.proofs.Finish.{thinned, thinned-at, thinned-left, kept-rate}
 use Rattle.levels.proofs.State.{state-at, state-left, state-end, state-jump, stepped-rate}
 
--- ---- the lengths, by one computed test
-abbrev lengths : List ℕ
-lengths =
-    8 ∷ 8 ∷ 8 ∷ 8 ∷ 8 ∷ 8 ∷ 8 ∷ 8 ∷ 8 ∷ 8 ∷ 8 ∷ 8 ∷ 8 ∷ 8 ∷ 8 ∷ 8 ∷ 16 ∷ 16 ∷ 16 ∷ 16 ∷ 16 ∷ 16 ∷ 16 ∷ 16 ∷ 24 ∷ 24 ∷ 24 ∷ 24 ∷ 24 ∷ 24 ∷ 24 ∷ 24
-    ∷ 24 ∷ 24 ∷ 24 ∷ 24 ∷ 32 ∷ 32 ∷ 32 ∷ 32 ∷ 32 ∷ 32 ∷ 32 ∷ 32 ∷ []
-
-module _ (p : ℕ) (h : p < 44) where
-  pub length-is : nth lengths p ≡ lengthOf p
-  unfolding lengthOf
-  length-is = eqb→eq _ _ (every-at (λ p x. eqb x (lengthOf p)) lengths 0 tt p h)
-
-  pub length-some : 1 ≤ nth lengths p
-  length-some = leb→le _ _ (every-at (λ p x. leb 1 x) lengths 0 tt p h)
-
-  pub length-most : nth lengths p ≤ 32
-  length-most = leb→le _ _ (every-at (λ p x. leb x 32) lengths 0 tt p h)
+-- ---- the lengths
+pub lengths-range : (p : ℕ) → (8 ≤ lengthOf p) × (lengthOf p ≤ 32)
+unfolding lengthOf
+lengths-range p = go (ltb p 16) (ltb p 24) (ltb p 36)
+  where
+    go : (a b c : Bool) → (8 ≤ cond a 8 (cond b 16 (cond c 24 32))) × (cond a 8 (cond b 16 (cond c 24 32)) ≤ 32)
+    go true b c = (omega arith, omega arith)
+    go false true c = (omega arith, omega arith)
+    go false false true = (omega arith, omega arith)
+    go false false false = (omega arith, omega arith)
 
 -- ---- the start
 key-low : (wide : Bool) (p height : ℕ) → height ≤ 976 → keyOf wide p height ≤ 65535
@@ -46,6 +39,14 @@ key-low wide p height h = go (competing wide p)
     go true = omega arith
     go false = omega arith
 
+key-low-bits : (wide : Bool) (p height : ℕ) → p < 44 → 0 < keyOf wide p height → keyOf wide p height % 64 ≡ 63 - p
+unfolding keyOf
+key-low-bits wide p height h = go (competing wide p)
+  where
+    go : (b : Bool) → 0 < cond b (64 * height + (63 - p) + 2048) 0 → cond b (64 * height + (63 - p) + 2048) 0 % 64 ≡ 63 - p
+    go true k = omega arith
+    go false k = absurd (omega arith)
+
 module _ (wide : Bool) (heights : List ℕ) where
   key-at : (p : ℕ) → p < 44 → nth (keysOf wide heights) p ≡ keyOf wide p (nth heights p)
   unfolding keysOf
@@ -53,6 +54,9 @@ module _ (wide : Bool) (heights : List ℕ) where
 
   pub keys-low : Room heights → (p : ℕ) → p < 44 → nth (keysOf wide heights) p ≤ 65535
   keys-low r p h = rw (key-at p h) (key-low wide p (nth heights p) (r p h .1))
+
+  pub keys-keyed : Keyed (keysOf wide heights)
+  keys-keyed p h = rw (key-at p h) (key-low-bits wide p (nth heights p) h)
 
   begin-flat : (budget : ℕ) → Room heights → Flat (begin lengthOf (nth heights) (competing wide) budget) (keysOf wide heights)
   unfolding fresh spot keyOf

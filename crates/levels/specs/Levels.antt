@@ -2,7 +2,7 @@
 use mathlib.Core.Path.{_≡_}
 use mathlib.Core.Bool.{Bool, cond}
 use mathlib.Core.List.{List}
-use Prim.Native.Nat.{ℕ, _+_, _-_, _*_, _/_, _<_, _≤_}
+use Prim.Native.Nat.{ℕ, zero, suc, _%_, _+_, _-_, _*_, _/_, _<_, _≤_}
 use lib.Dec.{leb, ltb}
 use lib.ListN.{length}
 use Rattle.ground.specs.Fills.{table}
@@ -38,6 +38,15 @@ bidAt keys rates left p = bid (nth keys p) (lengthOf p) (nth rates p) left
 pub record Best (f : ℕ → ℕ) (q : ℕ) : Type 0 where
   pub inside : q < 44
   pub high : (p : ℕ) → p < 44 → f p ≤ f q
+
+-- the highest of f 0, …, f (n − 1)
+unfoldable pub highest : (ℕ → ℕ) → ℕ → ℕ
+highest f zero = 0
+highest f (suc n) = highest f n + (f n - highest f n)
+
+-- a spot above 0 has its band in its lowest six bits
+abbrev pub Keyed : List ℕ → Type 0
+Keyed keys = (p : ℕ) → p < 44 → 0 < nth keys p → nth keys p % 64 ≡ 63 - p
 
 -- no bid is left, and the contest ends alike from both
 pub record Finished (keys rates : List ℕ) (left : ℕ) (rates′ : List ℕ) (left′ : ℕ) : Type 0 where

@@ -6,7 +6,7 @@ ghost use Prim.Native.Nat.{ℕ, _+_, _-_, _*_, _/_, _≤_, _<_};
 ghost use Rattle.ground.specs.Fills.{table};
 ghost use Rattle.ground.specs.Sums.{nth};
 ghost use Rattle.contest.specs.Bands.{lengthOf, competing};
-ghost use Rattle.levels.specs.Levels.{climb, bill, bid, bidAt, Best, Finished, keyOf, keysOf, Room, settled};
+ghost use Rattle.levels.specs.Levels.{climb, bill, bid, bidAt, highest, Keyed, Finished, keyOf, keysOf, Room, settled};
 
 pub struct Ends {
     pub rates: [u8; 44],
@@ -60,17 +60,23 @@ const LENGTHS: [u16; 44] = [
     32,
 ];
 
-fn length_of(p: usize) -> u16
-    requires { ⌜ p < 44 ⌝ }
-    ensures { λ r. ⌜ (r ≡ lengthOf p) × (1 ≤ r) × (r ≤ 32) ⌝ }
+// The lengths by band, laid out once for a call.
+fn lengths() -> [u16; 44]
+    ensures { λ r. ⌜ r ≡ table 44 lengthOf ⌝ }
 {
-    LENGTHS[p]
+    LENGTHS
 }
 
 fn less(a: u16, b: u16) -> u16
     ensures { λ r. ⌜ r ≡ a - b ⌝ }
 {
     if b < a { a - b } else { 0 }
+}
+
+fn larger(a: u16, b: u16) -> u16
+    ensures { λ r. ⌜ r ≡ a + (b - a) ⌝ }
+{
+    if a < b { b } else { a }
 }
 
 fn climb_of(key: u16, level: u16) -> u16
@@ -80,28 +86,29 @@ fn climb_of(key: u16, level: u16) -> u16
     if d < 9 { d } else { 9 }
 }
 
-fn bill_of(keys: &[u16; 44], level: u16) -> u16
+fn bill_of(keys: &[u16; 44], sizes: &[u16; 44], level: u16) -> u16
+    requires { ⌜ now sizes ≡ table 44 lengthOf ⌝ }
     ensures { λ r. ⌜ r ≡ bill (now (keys .entry)) level 44 ⌝ }
 {
     let mut sum: u16 = 0;
     let mut i = 0;
     while i < 44 {
-        sum += climb_of(keys[i], level) * length_of(i);
+        sum += climb_of(keys[i], level) * sizes[i];
         i += 1;
     }
     sum
 }
 
 // The level is found by halving; that it is the lowest one that the budget pays matters for speed alone.
-fn level_of(keys: &[u16; 44], budget: u16) -> u16
-    requires { ⌜ ((p : ℕ) → p < 44 → nth (now keys) p ≤ 65535) ⌝ }
+fn level_of(keys: &[u16; 44], sizes: &[u16; 44], budget: u16) -> u16
+    requires { ⌜ (now sizes ≡ table 44 lengthOf) × ((p : ℕ) → p < 44 → nth (now keys) p ≤ 65535) ⌝ }
     ensures { λ r. ⌜ bill (now (keys .entry)) r 44 ≤ budget ⌝ }
 {
     let mut level: u16 = 65535;
     let mut step: u16 = 32768;
     while 0 < step {
         let lower = less(level, step);
-        if bill_of(keys, lower) <= budget {
+        if bill_of(keys, sizes, lower) <= budget {
             level = lower;
         }
         step = step / 2;
@@ -132,40 +139,36 @@ fn bid_of(key: u16, size: u16, rate: u8, left: u16) -> u16
     0
 }
 
-fn best(keys: &[u16; 44], rates: &[u8; 44], left: u16) -> usize
-    ensures { λ r. ⌜ Best (bidAt (now (keys .entry)) (now (rates .entry)) left) r ⌝ }
+// The highest bid: its band stands in its lowest six bits.
+fn top_bid(keys: &[u16; 44], sizes: &[u16; 44], rates: &[u8; 44], left: u16) -> u16
+    requires { ⌜ now sizes ≡ table 44 lengthOf ⌝ }
+    ensures { λ r. ⌜ r ≡ highest (bidAt (now (keys .entry)) (now (rates .entry)) left) 44 ⌝ }
 {
-    let mut q = 0;
-    let mut top = bid_of(keys[0], length_of(0), rates[0], left);
-    let mut i = 1;
+    let mut top: u16 = 0;
+    let mut i = 0;
     while i < 44 {
-        let b = bid_of(keys[i], length_of(i), rates[i], left);
-        if top < b {
-            top = b;
-            q = i;
-        }
+        top = larger(top, bid_of(keys[i], sizes[i], rates[i], left));
         i += 1;
     }
-    q
+    top
 }
 
-fn serve_rest(keys: &[u16; 44], start: [u8; 44], budget: u16) -> Ends
-    requires { ⌜ length start ≡ 44 ⌝ }
+fn serve_rest(keys: &[u16; 44], sizes: &[u16; 44], start: [u8; 44], budget: u16) -> Ends
+    requires { ⌜ (now sizes ≡ table 44 lengthOf) × Keyed (now keys) × (length start ≡ 44) ⌝ }
     ensures { λ r. ⌜ Finished (now (keys .entry)) start budget (r .rates) (r .left) ⌝ }
 {
     let mut rates = start;
     let mut left = budget;
-    loop {
-        let q = best(keys, &rates, left);
-        let size = length_of(q);
-        let rate = rates[q];
-        let b = bid_of(keys[q], size, rate, left);
-        if b == 0 {
+    while 8 <= left {
+        let top = top_bid(keys, sizes, &rates, left);
+        if top == 0 {
             return Ends { rates, left };
         }
-        rates[q] = rate + 1;
-        left -= size;
+        let q = (63 - top % 64) as usize;
+        rates[q] = rates[q] + 1;
+        left -= sizes[q];
     }
+    Ends { rates, left }
 }
 
 fn competes(wide: bool, p: usize) -> bool
@@ -205,8 +208,9 @@ pub fn settle(wide: bool, heights: &[u16; 44], budget: u16) -> Ends
     ensures { λ r. ⌜ r ≡ settled wide (now (heights .entry)) budget ⌝ }
 {
     let keys = keys_of(wide, heights);
-    let level = level_of(&keys, budget);
-    let cost = bill_of(&keys, level);
+    let sizes = lengths();
+    let level = level_of(&keys, &sizes, budget);
+    let cost = bill_of(&keys, &sizes, level);
     let start = climbs(&keys, level);
-    serve_rest(&keys, start, budget - cost)
+    serve_rest(&keys, &sizes, start, budget - cost)
 }

@@ -10,13 +10,13 @@ use Rattle.levels.proofs.level_of.Statement.{statement}
 use Rattle.levels.proofs.level_of.Tie as tie
 
 abbrev Inv-loop : tie.InvT-loop
-Inv-loop keys budget level₀ step₀ level step = bill keys level 44 ≤ budget
+Inv-loop keys sizes budget level₀ step₀ level step = bill keys level 44 ≤ budget
 
 abbrev μ-loop : tie.MeasureT-loop
-μ-loop keys budget level₀ step₀ level step = step
+μ-loop keys sizes budget level₀ step₀ level step = step
 
 loop-holds : tie.Need-loop-holds Inv-loop μ-loop
-loop-holds c = omega (arith, bill-top (c .args .keys .now) (c .pre))
+loop-holds c = omega (arith, bill-top (c .args .keys .now) (c .pre .1))
 
 less-requires : tie.Need-less-requires Inv-loop μ-loop
 less-requires c κs = search needs
