@@ -9,6 +9,7 @@ ghost use Rattle.ground.specs.Sums.{nth};
 ghost use Rattle.weights.specs.Weights.{inRange};
 ghost use Rattle.allotment.specs.Allotment.{sharesOf};
 
+#[repr(C)]
 pub struct Shares {
     pub reply: u8,
     pub rates: [u8; 44],

@@ -51,8 +51,8 @@ module _ (b : ℕ) (h : b < 20) where
   unfolding table17 rowAt
   height-is = column (λ b. heightOf b) heights tt b h
 
-  pub height-le : nth heights b ≤ 9
-  height-le = column-le (λ b x. x) 9 heights tt b h
+  pub first-room : nth firsts b + nth heights b ≤ 44
+  first-room = rw height-is first-in
 
   pub part-is : nth parts b ≡ 180 / heightOf b
   unfolding table17 rowAt
@@ -61,6 +61,9 @@ module _ (b : ℕ) (h : b < 20) where
   pub part-times : nth parts b * heightOf b ≡ 180
   unfolding table17 rowAt
   part-times = eqb→eq _ _ (every-at (λ b x. eqb (x * heightOf b) 180) parts 0 tt b h)
+
+  pub part-all : nth parts b * nth heights b ≡ 180
+  part-all = rw height-is part-times
 
   pub lift-is : nth lifts b ≡ 720 * liftOf b
   unfolding table17 rowAt

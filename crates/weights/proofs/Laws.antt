@@ -16,8 +16,8 @@ use Rattle.ground.specs.Cases.{and-true}
 use Rattle.ground.specs.Fills.{table}
 use Rattle.ground.specs.Replies.{done, outOfRange}
 use Rattle.ground.specs.Sums.{nth, sumTo}
-use Rattle.weights.specs.Table17.{bandsOf, heightOf, liftOf}
-use Rattle.weights.specs.Raised.{row, up, down, most, least, scaled}
+use Rattle.weights.specs.Table17.{bandsOf, heightOf, liftOf, floorOf}
+use Rattle.weights.specs.Raised.{row, up, down, excess, most, least, scaled}
 use Rattle.weights.specs.Weights.{inRange, weightsOf, score, scoresOf, weighed}
 use Rattle.weights.specs.declared.Weights.{Weights}
 
@@ -65,6 +65,11 @@ pub row-made : (qs : List ℕ) (b part sum lift first n : ℕ) → part ≡ 180 
     → n ≡ heightOf b → lift ≡ 720 * liftOf b → part * sum + lift ≡ row qs b
 unfolding row
 row-made qs b part sum lift first n ep es ef en el = simp (ep, es, ef, en, el)
+
+-- (27)
+pub excess-made : (bs : List ℕ) (b floor lift m r : ℕ) → floor ≡ 720 * (floorOf b + 5) → lift ≡ 720 * liftOf b → m ≡ max (nth bs b) floor → r ≡ m - lift → r ≡ excess bs b
+unfolding excess
+excess-made bs b floor lift m r ef el em er = er ∙ simp (em, ef, el)
 
 -- (28)
 module _ (hi lo d : ℕ) where

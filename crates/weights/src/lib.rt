@@ -12,6 +12,7 @@ ghost use Rattle.weights.specs.Table17.{bandsOf, heightOf, liftOf, floor
 ghost use Rattle.weights.specs.Raised.{loud, quarter, row, up, down, excess, most, least, scaled, raisedRows};
 ghost use Rattle.weights.specs.Weights.{rowWeights, spread, weightsOf, score, scoresOf, inRange, weighed};
 
+#[repr(C)]
 pub struct Weights {
     pub reply: u8,
     pub weights: [u8; 44],
@@ -168,41 +169,6 @@ const FLOORS: [u16; 20] = [
     11520,
 ];
 
-fn first_of(b: usize) -> usize
-    requires { ⌜ b < 20 ⌝ }
-    ensures { λ r. ⌜ (r ≡ nth (bandsOf b) 0) × (r + heightOf b ≤ 44) ⌝ }
-{
-    FIRSTS[b]
-}
-
-fn height_of(b: usize) -> usize
-    requires { ⌜ b < 20 ⌝ }
-    ensures { λ r. ⌜ (r ≡ heightOf b) × (r ≤ 9) ⌝ }
-{
-    HEIGHTS[b]
-}
-
-fn part_of(b: usize) -> u16
-    requires { ⌜ b < 20 ⌝ }
-    ensures { λ r. ⌜ (r ≡ 180 / heightOf b) × (r * heightOf b ≡ 180) ⌝ }
-{
-    PARTS[b]
-}
-
-fn lift_of(b: usize) -> u16
-    requires { ⌜ b < 20 ⌝ }
-    ensures { λ r. ⌜ (r ≡ 720 * liftOf b) × (r ≤ 5760) ⌝ }
-{
-    LIFTS[b]
-}
-
-fn floor_of(b: usize) -> u16
-    requires { ⌜ b < 20 ⌝ }
-    ensures { λ r. ⌜ r ≡ 720 * (floorOf b + 5) ⌝ }
-{
-    FLOORS[b]
-}
-
 fn sum_of(qs: &[u8; 44], p: usize, n: usize) -> u16
     requires { ⌜ (p + n ≤ 44) × ((k : ℕ) → nth (now qs) k ≤ 156) ⌝ }
     ensures { λ r. ⌜ (r ≡ sumTo (λ i. nth (now (qs .entry)) (p + i)) n) × (r ≤ 156 * n) ⌝ }
@@ -217,21 +183,18 @@ fn sum_of(qs: &[u8; 44], p: usize, n: usize) -> u16
 }
 
 // (24)
-fn row_at(qs: &[u8; 44], b: usize) -> u16
-    requires { ⌜ (b < 20) × ((k : ℕ) → nth (now qs) k ≤ 156) ⌝ }
-    ensures { λ r. ⌜ r ≡ row (now (qs .entry)) b ⌝ }
-{
-    part_of(b) * sum_of(qs, first_of(b), height_of(b)) + lift_of(b)
-}
-
 fn rows(qs: &[u8; 44]) -> [u16; 20]
     requires { ⌜ ((k : ℕ) → nth (now qs) k ≤ 156) ⌝ }
     ensures { λ r. ⌜ r ≡ table 20 (row (now (qs .entry))) ⌝ }
 {
+    let firsts = FIRSTS;
+    let heights = HEIGHTS;
+    let parts = PARTS;
+    let lifts = LIFTS;
     let mut out = [0u16; 20];
     let mut i = 0;
     while i < 20 {
-        out[i] = row_at(qs, i);
+        out[i] = parts[i] * sum_of(qs, firsts[i], heights[i]) + lifts[i];
         i += 1;
     }
     out
@@ -271,10 +234,12 @@ fn backwards(bs: &[u16; 20]) -> [u16; 20]
 fn excesses(bs: &[u16; 20]) -> [u16; 20]
     ensures { λ r. ⌜ r ≡ table 20 (excess (now (bs .entry))) ⌝ }
 {
+    let floors = FLOORS;
+    let lifts = LIFTS;
     let mut out = [0u16; 20];
     let mut i = 0;
     while i < 20 {
-        out[i] = minus(larger(bs[i], floor_of(i)), lift_of(i));
+        out[i] = minus(larger(bs[i], floors[i]), lifts[i]);
         i += 1;
     }
     out
@@ -342,7 +307,7 @@ fn row_weights(transient: bool, norms: &[u8; 44]) -> [u8; 20]
 }
 
 // The row of each band in Table 17.
-const ROWS: [usize; 44] = [
+const PLACES: [u8; 44] = [
     0,
     1,
     2,
@@ -389,22 +354,16 @@ const ROWS: [usize; 44] = [
     19,
 ];
 
-fn row_of(p: usize) -> usize
-    requires { ⌜ p < 44 ⌝ }
-    ensures { λ r. ⌜ (r ≡ rowOf p) × (r < 20) ⌝ }
-{
-    ROWS[p]
-}
-
 // (29)
 fn laid(rows: &[u8; 20]) -> [u8; 44]
     requires { ⌜ ((k : ℕ) → nth (now rows) k ≤ 64) ⌝ }
     ensures { λ r. ⌜ (r ≡ table 44 (λ p. nth (now (rows .entry)) (rowOf p))) × ((k : ℕ) → nth r k ≤ 64) ⌝ }
 {
+    let places = PLACES;
     let mut out = [0u8; 44];
     let mut i = 0;
     while i < 44 {
-        let b = row_of(i);
+        let b = places[i] as usize;
         out[i] = rows[b];
         i += 1;
     }

@@ -7,24 +7,28 @@ use mathlib.Core.Path.{_≡_, ap, refl}
 use native.Mathlib.Omega.{arith}
 use Rattle.ground.specs.Fills.{bound, everywhere, fill, filled}
 use Rattle.ground.specs.Sums.{nth}
+use Rattle.weights.proofs.Columns.{row-in, row-is}
 use Rattle.weights.specs.Table17.{rowOf}
 use Rattle.weights.proofs.laid.Statement.{statement}
 use Rattle.weights.proofs.laid.Tie as tie
 
 abbrev Inv-loop : tie.InvT-loop
-Inv-loop rows out₀ i₀ out i = (i ≤ 44) × (length out ≡ 44) × ((k : ℕ) → k < i → getD out k 0 ≡ nth rows (rowOf k)) × ((k : ℕ) → k < i → getD out k 0 ≤ 64)
+Inv-loop rows places out₀ i₀ out i = (i ≤ 44) × (length out ≡ 44) × ((k : ℕ) → k < i → getD out k 0 ≡ nth rows (rowOf k)) × ((k : ℕ) → k < i → getD out k 0 ≤ 64)
 
 abbrev μ-loop : tie.MeasureT-loop
-μ-loop rows out₀ i₀ out i = 44 - i
+μ-loop rows places out₀ i₀ out i = 44 - i
 
 loop-holds : tie.Need-loop-holds Inv-loop μ-loop
 loop-holds c = (omega arith, refl, (λ k h. absurd (omega arith)), (λ k h. absurd (omega arith)))
 
-row-of-requires : tie.Need-row-of-requires Inv-loop μ-loop
-row-of-requires c κs = search needs
+array-read-b : tie.Need-array-read-b Inv-loop μ-loop
+array-read-b c = search needs
+
+cast-b : tie.Need-cast-b Inv-loop μ-loop
+cast-b c = let i = c .before .loop .i in omega (arith, row-in i (omega arith))
 
 element-copy-out-out : tie.Need-element-copy-out-out Inv-loop μ-loop
-element-copy-out-out c = search needs
+element-copy-out-out c = row-in (c .before .loop .i) (omega arith)
 
 array-write-out : tie.Need-array-write-out Inv-loop μ-loop
 array-write-out c = search needs
@@ -37,12 +41,13 @@ loop-less c = search needs
 
 loop-again : tie.Need-loop-again Inv-loop μ-loop
 loop-again c =
-    let l = c .before .before .before .loop in
-    let a = c .before .before .before .before in (
+    let l = c .before .before .loop in
+    let a = c .before .before .before in
+    let e = row-is (l .i) (omega arith) in (
       omega arith,
       simp length-set (l .inv .1),
-      fill _ 0 (l .out) (l .i) _ (omega arith) (l .inv .2) (ap (λ (b : ℕ). nth (a .args .rows .now) b) (c .before .row-of .ensures .0)),
-      bound 64 (l .out) (l .i) _ (omega arith) (l .inv .3) (a .pre (c .before .row-of .result)),
+      fill _ 0 (l .out) (l .i) _ (omega arith) (l .inv .2) (ap (λ (b : ℕ). nth (a .args .rows .now) b) e),
+      bound 64 (l .out) (l .i) _ (omega arith) (l .inv .3) (a .pre _),
     )
 
 returns : tie.Need-returns Inv-loop μ-loop
@@ -57,7 +62,8 @@ laid-spec =
     Inv-loop
     μ-loop
     loop-holds
-    row-of-requires
+    array-read-b
+    cast-b
     element-copy-out-out
     array-write-out
     add-i
