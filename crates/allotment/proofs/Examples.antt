@@ -1,0 +1,42 @@
+-- The starred examples of the allotment, and examples of our own: computed from the definitions.
+-- Assumes nothing.
+use mathlib.Core.Path.{_≡_, refl}
+use mathlib.Core.Bool.{Bool, true, false}
+use mathlib.Core.List.{List, [], _∷_, _++_}
+use Prim.Native.Nat.{ℕ}
+use lib.ListN.{replicate}
+use Rattle.ground.specs.Fills.{from}
+use Rattle.weights.specs.Table17.{table17, rowAt, has, seek, rowOf}
+use Rattle.weights.specs.Weights.{loudness, sumOver, spe, bspe, forward, backward, renormed, largest, smallest, mapped, louds, spes, rowWeights, spread, weightsOf, score, scoresOf, inRange}
+use Rattle.contest.specs.Bands.{lengthOf, competing}
+use Rattle.contest.specs.Rounds.{behind, leader, granted, dropped, first, ahead, round, contest, begin, played, rates}
+use Rattle.allotment.specs.declared.Shares.{Shares}
+use Rattle.allotment.specs.Allotment.{endOf, ratesOf, leftOf, sharesOf}
+
+-- ★ all indices 20, stationary, all compete: budgets 414 and 500
+pub starred :
+    (sharesOf false true (replicate 44 20) 414 ≡ record { reply = 0; rates = 2 ∷ replicate 29 1 ++ replicate 14 0; left = 6 })
+    × (sharesOf false true (replicate 44 20) 500 ≡ record { reply = 0; rates = replicate 34 1 ++ replicate 10 0; left = 4 })
+unfolding
+    table17 rowAt has seek rowOf loudness sumOver spe bspe forward backward renormed largest smallest mapped louds spes rowWeights spread weightsOf score scoresOf
+    inRange from lengthOf competing behind leader granted dropped first ahead round contest begin played rates endOf ratesOf leftOf sharesOf
+starred = (refl, refl)
+
+-- unequal scores in a transient frame; louder bands 36 to 43 that do not compete; no budget; the largest budget
+pub others :
+    (sharesOf true true (0 ∷ 5 ∷ replicate 38 20 ++ replicate 4 39) 2000
+    ≡ record { reply = 0; rates = 9 ∷ 9 ∷ 1 ∷ 1 ∷ replicate 4 2 ++ replicate 22 3 ++ replicate 2 2 ++ replicate 8 3 ++ replicate 4 0; left = 0 })
+    × (sharesOf false false (replicate 36 30 ++ replicate 8 0) 900 ≡ record { reply = 0; rates = replicate 29 2 ++ replicate 6 1 ++ replicate 9 0; left = 4 })
+    × (sharesOf false true (replicate 44 39) 0 ≡ record { reply = 0; rates = replicate 44 0; left = 0 })
+    × (sharesOf false true (replicate 44 0) 2560 ≡ record { reply = 0; rates = replicate 18 4 ++ replicate 26 3; left = 0 })
+unfolding
+    table17 rowAt has seek rowOf loudness sumOver spe bspe forward backward renormed largest smallest mapped louds spes rowWeights spread weightsOf score scoresOf
+    inRange from lengthOf competing behind leader granted dropped first ahead round contest begin played rates endOf ratesOf leftOf sharesOf
+others = (refl, refl, refl, refl)
+
+-- an index over 39, and a budget over 2,560
+pub refused :
+    (sharesOf false true (replicate 43 20 ++ (40 ∷ [])) 414 ≡ record { reply = 8; rates = replicate 44 0; left = 0 })
+    × (sharesOf false true (replicate 44 20) 2561 ≡ record { reply = 8; rates = replicate 44 0; left = 0 })
+unfolding inRange sharesOf
+refused = (refl, refl)

@@ -1,0 +1,2 @@
+pub mod Allotment
+pub mod Demand3

@@ -1,0 +1,5 @@
+pub mod Laws
+pub mod Ends
+pub mod Fair
+pub mod Bridge
+pub mod Promise

@@ -1,0 +1,4 @@
+pub mod Bands
+pub mod Rounds
+pub mod Fairness
+pub mod Raised

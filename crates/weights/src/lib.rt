@@ -1,0 +1,471 @@
+// The weights and starting scores of 7.5.1. The code counts in naturals: loudness raised by 5, every 720th by 3,600.
+use ground::replies::DONE;
+use ground::replies::OUT_OF_RANGE;
+ghost use lib.ListN.{length};
+ghost use mathlib.Core.Path.{_≡_};
+ghost use mathlib.Core.Bool.{true};
+ghost use Prim.Native.Nat.{ℕ, _+_, _-_, _*_, _/_, _≤_, _<_, max, min};
+ghost use Rattle.ground.specs.Fills.{table};
+ghost use Rattle.ground.specs.Sums.{nth, sumTo};
+ghost use Rattle.ground.specs.Whole.{Is};
+ghost use Rattle.weights.specs.Table17.{bandsOf, heightOf, liftOf, floorOf, rowOf};
+ghost use Rattle.weights.specs.Raised.{loud, quarter, row, up, down, excess, most, least, scaled, raisedRows};
+ghost use Rattle.weights.specs.Weights.{rowWeights, spread, weightsOf, score, scoresOf, inRange, weighed};
+
+#[repr(C)]
+pub struct Weights {
+    pub reply: u8,
+    pub weights: [u8; 44],
+    pub scores: [i16; 44],
+}
+
+fn minus(a: u16, b: u16) -> u16
+    ensures { λ r. ⌜ r ≡ a - b ⌝ }
+{
+    if b <= a { a - b } else { 0 }
+}
+
+fn larger(a: u16, b: u16) -> u16
+    ensures { λ r. ⌜ r ≡ max a b ⌝ }
+{
+    if a < b { b } else { a }
+}
+
+fn smaller(a: u16, b: u16) -> u16
+    ensures { λ r. ⌜ r ≡ min a b ⌝ }
+{
+    if a < b { a } else { b }
+}
+
+fn wide(x: u8) -> u16
+    ensures { λ r. ⌜ (r ≡ x) × (r < 256) ⌝ }
+{
+    x as u16
+}
+
+fn raised(index: u8) -> u8
+    ensures { λ r. ⌜ (r ≡ 39 - index) × (r ≤ 39) ⌝ }
+{
+    if index < 39 { 39 - index } else { 0 }
+}
+
+// (23), four times.
+fn quarter_at(transient: bool, norms: &[u8; 44], p: usize) -> u8
+    requires { ⌜ p < 44 ⌝ }
+    ensures { λ r. ⌜ (r ≡ quarter transient (now (norms .entry)) p) × (r ≤ 156) ⌝ }
+{
+    if transient {
+        let q = 4 * (p / 4);
+        raised(norms[q]) + raised(norms[q + 1]) + raised(norms[q + 2]) + raised(norms[q + 3])
+    } else {
+        4 * raised(norms[p])
+    }
+}
+
+fn quarters(transient: bool, norms: &[u8; 44]) -> [u8; 44]
+    ensures { λ r. ⌜ (r ≡ table 44 (quarter transient (now (norms .entry)))) × ((k : ℕ) → nth r k ≤ 156) ⌝ }
+{
+    let mut out = [0u8; 44];
+    let mut i = 0;
+    while i < 44 {
+        out[i] = quarter_at(transient, norms, i);
+        i += 1;
+    }
+    out
+}
+
+// Table 17 by columns: the first band of J_b, H_b, 180 / H_b, 720 T_b, 720 (A(b) + 5).
+const FIRSTS: [usize; 20] = [
+    0,
+    1,
+    2,
+    3,
+    4,
+    5,
+    6,
+    7,
+    8,
+    9,
+    10,
+    12,
+    14,
+    16,
+    18,
+    20,
+    24,
+    27,
+    30,
+    35,
+];
+
+const HEIGHTS: [usize; 20] = [1, 1, 1, 1, 1, 1, 1, 1, 1, 1, 2, 2, 2, 2, 2, 4, 3, 3, 5, 9];
+
+const PARTS: [u16; 20] = [
+    180,
+    180,
+    180,
+    180,
+    180,
+    180,
+    180,
+    180,
+    180,
+    180,
+    90,
+    90,
+    90,
+    90,
+    90,
+    45,
+    60,
+    60,
+    36,
+    20,
+];
+
+const LIFTS: [u16; 20] = [
+    2160,
+    2160,
+    2160,
+    2160,
+    2160,
+    2160,
+    2160,
+    2160,
+    2160,
+    2160,
+    2880,
+    2880,
+    2880,
+    3600,
+    3600,
+    4320,
+    4320,
+    4320,
+    5040,
+    5760,
+];
+
+const FLOORS: [u16; 20] = [
+    9360,
+    7920,
+    5760,
+    5760,
+    5760,
+    5760,
+    5760,
+    5760,
+    5760,
+    5760,
+    5760,
+    5760,
+    5760,
+    5760,
+    5760,
+    5760,
+    6480,
+    7200,
+    8640,
+    11520,
+];
+
+fn sum_of(qs: &[u8; 44], p: usize, n: usize) -> u16
+    requires { ⌜ (p + n ≤ 44) × ((k : ℕ) → nth (now qs) k ≤ 156) ⌝ }
+    ensures { λ r. ⌜ (r ≡ sumTo (λ i. nth (now (qs .entry)) (p + i)) n) × (r ≤ 156 * n) ⌝ }
+{
+    let mut sum: u16 = 0;
+    let mut i = 0;
+    while i < n {
+        sum += wide(qs[p + i]);
+        i += 1;
+    }
+    sum
+}
+
+// (24)
+fn rows(qs: &[u8; 44]) -> [u16; 20]
+    requires { ⌜ ((k : ℕ) → nth (now qs) k ≤ 156) ⌝ }
+    ensures { λ r. ⌜ r ≡ table 20 (row (now (qs .entry))) ⌝ }
+{
+    let firsts = FIRSTS;
+    let heights = HEIGHTS;
+    let parts = PARTS;
+    let lifts = LIFTS;
+    let mut out = [0u16; 20];
+    let mut i = 0;
+    while i < 20 {
+        out[i] = parts[i] * sum_of(qs, firsts[i], heights[i]) + lifts[i];
+        i += 1;
+    }
+    out
+}
+
+// (25)
+fn forwards(bs: &[u16; 20]) -> [u16; 20]
+    ensures { λ r. ⌜ r ≡ table 20 (up (now (bs .entry))) ⌝ }
+{
+    let mut last = bs[0];
+    let mut out = [last; 20];
+    let mut i = 0;
+    while i < 19 {
+        i += 1;
+        last = larger(bs[i], minus(last, 2880));
+        out[i] = last;
+    }
+    out
+}
+
+// (26)
+fn backwards(bs: &[u16; 20]) -> [u16; 20]
+    ensures { λ r. ⌜ r ≡ table 20 (λ b. down (now (bs .entry)) (19 - b)) ⌝ }
+{
+    let mut last = bs[19];
+    let mut out = [last; 20];
+    let mut i = 19;
+    while 0 < i {
+        i -= 1;
+        last = larger(bs[i], minus(last, 5760));
+        out[i] = last;
+    }
+    out
+}
+
+// (27) with the sign changed.
+fn excesses(bs: &[u16; 20]) -> [u16; 20]
+    ensures { λ r. ⌜ r ≡ table 20 (excess (now (bs .entry))) ⌝ }
+{
+    let floors = FLOORS;
+    let lifts = LIFTS;
+    let mut out = [0u16; 20];
+    let mut i = 0;
+    while i < 20 {
+        out[i] = minus(larger(bs[i], floors[i]), lifts[i]);
+        i += 1;
+    }
+    out
+}
+
+fn most_of(ds: &[u16; 20]) -> u16
+    ensures { λ r. ⌜ r ≡ most (now (ds .entry)) 19 ⌝ }
+{
+    let mut m = ds[0];
+    let mut i = 0;
+    while i < 19 {
+        i += 1;
+        m = larger(m, ds[i]);
+    }
+    m
+}
+
+fn least_of(ds: &[u16; 20]) -> u16
+    ensures { λ r. ⌜ r ≡ least (now (ds .entry)) 19 ⌝ }
+{
+    let mut m = ds[0];
+    let mut i = 0;
+    while i < 19 {
+        i += 1;
+        m = smaller(m, ds[i]);
+    }
+    m
+}
+
+// (28)
+fn scale(hi: u16, lo: u16, d: u16) -> u8
+    requires { ⌜ (lo ≤ d) × (d ≤ hi) ⌝ }
+    ensures { λ r. ⌜ (r ≡ scaled hi lo d) × (r ≤ 64) ⌝ }
+{
+    if lo < hi {
+        (64 * ((hi - d) as u32) / ((hi - lo) as u32)) as u8
+    } else {
+        0
+    }
+}
+
+fn scales(ds: &[u16; 20]) -> [u8; 20]
+    ensures { λ r. ⌜ (r ≡ table 20 (λ b. scaled (most (now (ds .entry)) 19) (least (now (ds .entry)) 19) (nth (now (ds .entry)) b))) × ((k : ℕ) → nth r k ≤ 64) ⌝ }
+{
+    let hi = most_of(ds);
+    let lo = least_of(ds);
+    let mut out = [0u8; 20];
+    let mut i = 0;
+    while i < 20 {
+        out[i] = scale(hi, lo, ds[i]);
+        i += 1;
+    }
+    out
+}
+
+fn row_weights(transient: bool, norms: &[u8; 44]) -> [u8; 20]
+    ensures { λ r. ⌜ (r ≡ raisedRows transient (now (norms .entry))) × ((k : ℕ) → nth r k ≤ 64) ⌝ }
+{
+    let qs = quarters(transient, norms);
+    let b24 = rows(&qs);
+    let b25 = forwards(&b24);
+    let b26 = backwards(&b25);
+    let ds = excesses(&b26);
+    scales(&ds)
+}
+
+// The row of each band in Table 17.
+const PLACES: [u8; 44] = [
+    0,
+    1,
+    2,
+    3,
+    4,
+    5,
+    6,
+    7,
+    8,
+    9,
+    10,
+    10,
+    11,
+    11,
+    12,
+    12,
+    13,
+    13,
+    14,
+    14,
+    15,
+    15,
+    15,
+    15,
+    16,
+    16,
+    16,
+    17,
+    17,
+    17,
+    18,
+    18,
+    18,
+    18,
+    18,
+    19,
+    19,
+    19,
+    19,
+    19,
+    19,
+    19,
+    19,
+    19,
+];
+
+// (29)
+fn laid(rows: &[u8; 20]) -> [u8; 44]
+    requires { ⌜ ((k : ℕ) → nth (now rows) k ≤ 64) ⌝ }
+    ensures { λ r. ⌜ (r ≡ table 44 (λ p. nth (now (rows .entry)) (rowOf p))) × ((k : ℕ) → nth r k ≤ 64) ⌝ }
+{
+    let places = PLACES;
+    let mut out = [0u8; 44];
+    let mut i = 0;
+    while i < 44 {
+        let b = places[i] as usize;
+        out[i] = rows[b];
+        i += 1;
+    }
+    out
+}
+
+// (30)
+fn spread_at(transient: bool, ws: &[u8; 44], p: usize) -> u8
+    requires { ⌜ (p < 44) × ((k : ℕ) → nth (now ws) k ≤ 64) ⌝ }
+    ensures { λ r. ⌜ (r ≡ spread transient (now (ws .entry)) p) × (r ≤ 64) ⌝ }
+{
+    if transient {
+        let q = 4 * (p / 4);
+        ((wide(ws[q]) + wide(ws[q + 1]) + wide(ws[q + 2]) + wide(ws[q + 3])) / 4) as u8
+    } else {
+        ws[p]
+    }
+}
+
+fn spreads(transient: bool, ws: &[u8; 44]) -> [u8; 44]
+    requires { ⌜ ((k : ℕ) → nth (now ws) k ≤ 64) ⌝ }
+    ensures { λ r. ⌜ (r ≡ table 44 (spread transient (now (ws .entry)))) × ((k : ℕ) → nth r k ≤ 64) ⌝ }
+{
+    let mut out = [0u8; 44];
+    let mut i = 0;
+    while i < 44 {
+        out[i] = spread_at(transient, ws, i);
+        i += 1;
+    }
+    out
+}
+
+// The 44 weights, for indices that are known to be in range.
+pub fn weights_of(transient: bool, norms: &[u8; 44]) -> [u8; 44]
+    requires { ⌜ inRange (now norms) 44 ≡ true ⌝ }
+    ensures { λ r. ⌜ (r ≡ weightsOf transient (now (norms .entry))) × ((k : ℕ) → nth r k ≤ 64) ⌝ }
+{
+    let rows = row_weights(transient, norms);
+    let ws = laid(&rows);
+    spreads(transient, &ws)
+}
+
+// Whether each of the 44 indices is at most 39.
+pub fn in_range(norms: &[u8; 44]) -> bool
+    ensures { λ r. ⌜ r ≡ inRange (now (norms .entry)) 44 ⌝ }
+{
+    let mut i = 0;
+    while i < 44 {
+        if 39 < norms[i] {
+            return false;
+        }
+        i += 1;
+    }
+    true
+}
+
+// A score raised by 368, as the paper's number.
+fn lowered(height: u16) -> i16
+    requires { ⌜ height ≤ 976 ⌝ }
+    ensures { λ r. ⌜ Is r height 368 ⌝ }
+{
+    ((height as i32) - 368) as i16
+}
+
+// (31)
+fn score_of(index: u8, w: u8) -> i16
+    requires { ⌜ (index ≤ 39) × (w ≤ 64) ⌝ }
+    ensures { λ r. ⌜ r ≡ score index w ⌝ }
+{
+    lowered(912 - 16 * wide(index) + wide(w))
+}
+
+fn scores_of(norms: &[u8; 44], ws: &[u8; 44]) -> [i16; 44]
+    requires { ⌜ (inRange (now norms) 44 ≡ true) × ((k : ℕ) → nth (now ws) k ≤ 64) ⌝ }
+    ensures { λ r. ⌜ r ≡ table 44 (λ p. score (nth (now (norms .entry)) p) (nth (now (ws .entry)) p)) ⌝ }
+{
+    let mut out = [0i16; 44];
+    let mut i = 0;
+    while i < 44 {
+        let z = score_of(norms[i], ws[i]);
+        out[i] = z;
+        i += 1;
+    }
+    out
+}
+
+// The weights and starting scores of 44 norm indices in band order; 8 and zeros for an index over 39.
+pub fn weigh(transient: bool, norms: [u8; 44]) -> Weights
+    ensures { λ r. ⌜ r ≡ weighed transient norms ⌝ }
+{
+    if in_range(&norms) {
+        let weights = weights_of(transient, &norms);
+        let scores = scores_of(&norms, &weights);
+        return Weights {
+            reply: DONE,
+            weights,
+            scores,
+        };
+    }
+    Weights {
+        reply: OUT_OF_RANGE,
+        weights: [0u8; 44],
+        scores: [0i16; 44],
+    }
+}
