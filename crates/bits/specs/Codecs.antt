@@ -34,6 +34,18 @@ module _ {A B : Type 0} where
   andThen-got (got a r) f y q e = (a, r, refl, e)
   andThen-got (no x) f y q e = absurd (let z : _≡_ {A = ℕ} 0 1 = cc in omega arith)
 
+-- ---- the word of one coding
+
+abbrev pub coded : (c : Coding) → Good c → Codec 0 ℕ
+coded c g =
+    record {
+      write = wordOf c;
+      read = unword c;
+      Ok = Fit c;
+      back = λ v r f l. unword-word c v r g f;
+      there = word-unword c;
+    }
+
 -- ---- words of several codings, one after the other
 
 unfoldable pub writeAll : List Coding → List ℕ → List Bool

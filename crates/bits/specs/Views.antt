@@ -6,7 +6,7 @@ use mathlib.Core.List.{List, [], _∷_, _++_}
 use Prim.Native.Nat.{ℕ, zero, suc, _+_, _-_, _*_, _/_, _%_, _^_, _≤_, _<_}
 use native.Mathlib.Nat.{add-zero, add-suc, suc-add, zero-add, mod-eq-of-lt, zero-div}
 use native.Mathlib.Omega.{arith}
-use lib.ListN.{length, getD, take, drop, replicate, List·getD-eq-default}
+use lib.ListN.{length, getD, take, drop, replicate, length-append, List·getD-eq-default}
 use lib.Seq.{take-at, drop-at}
 use Rattle.bits.specs.Bits.{odd, word, val, bit, view}
 use Rattle.bits.specs.Numbers.{val-lt, val-append, val-word, val-middle, shifted-one}
@@ -101,3 +101,16 @@ view-window s p n h =
     (ap (view s i) e ∙ view-add s i (k + n) m ∙ ap (λ (z : List Bool). z ++ view s (i + (k + n)) m) (view-add s i k n))
     ∙ (simp length-view at (val-middle (view s i k) (view s (i + k) n) (view s (i + (k + n)) m)))
     ∙ ap (λ (z : ℕ). val (view s z n)) q
+
+-- what follows some bits at a place stands behind them
+pub view-rest : (s : List ℕ) (p n : ℕ) (w r : List Bool) → view s p n ≡ w ++ r
+    → (r ≡ view s (p + length w) (n - length w)) × (length w + length r ≡ n)
+view-rest s p n w r e =
+    let l : length w + length r ≡ n = sym (length-append w r) ∙ sym (ap length e) ∙ length-view s p n in
+    (sym (drop-at w r (length w) refl) ∙ ap (drop (length w)) (sym e) ∙ drop-view s p (length w) n (omega arith), l)
+
+-- and the bits themselves stand there
+pub view-front : (s : List ℕ) (p n : ℕ) (w r : List Bool) → view s p n ≡ w ++ r → view s p (length w) ≡ w
+view-front s p n w r e =
+    let l = view-rest s p n w r e .1 in
+    sym (take-view s p (length w) n (omega arith)) ∙ ap (take (length w)) e ∙ take-at w r (length w) refl

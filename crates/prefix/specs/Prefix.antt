@@ -1,7 +1,7 @@
 -- The prefix byte (A.4.1, Table A.1): its fields, what it says, and the byte of a mode. 01: F before L; R is written 0 and ignored in reading.
 -- Assumes nothing.
 use mathlib.Core.Path.{_≡_, refl, sym, ap, _∙_}
-use mathlib.Core.Bool.{Bool, cond}
+use mathlib.Core.Bool.{Bool, true, false, cond}
 use mathlib.Core.List.{List, [], _∷_}
 use Prim.Native.Nat.{ℕ, _+_, _-_, _*_, _/_, _%_, _≤_, _<_}
 use native.Mathlib.Omega.{arith}
@@ -9,7 +9,7 @@ use lib.Dec.{eqb, ltb}
 use lib.ListN.{length, getD}
 use borrow.Author.Tests.{eq-eqb, ne-eqb, lt-ltb, le-ltb}
 use Rattle.ground.specs.Replies.{done, noByte, marked, reserved, outOfRange, noData}
-use Rattle.prefix.specs.Sizes.{Size, noBody, notGiven, sized, tableA2, lengthBytes, modeBytes, a2-none, a2-low, a2-high, same-size}
+use Rattle.prefix.specs.Sizes.{Size, noBody, notGiven, sized, tableA2, lengthBytes, modeBytes, a2-none, a2-low, a2-high, a2-sized, same-size}
 use Rattle.prefix.specs.declared.Length.{Length}
 use Rattle.prefix.specs.declared.Prefix.{Prefix}
 use Rattle.prefix.specs.declared.Prefix.the-variants.{Data, NoData, NoByte, Marked, Reserved}
@@ -133,3 +133,24 @@ byte-mode m h = rw (lt-ltb m 20 h)
 pub byte-none : (m : ℕ) → 19 < m → byteOf m ≡ OutOfRange
 unfolding byteOf
 byte-none m h = rw (le-ltb m 20 h)
+
+-- a prefix that says data has a field L of 8 to 27
+said-sized : (z : Size) (l : ℕ) (f : Length) → tableA2 l ≡ z → said z l ≡ Data f → (8 ≤ f .0) × (f .0 ≤ 27)
+said-sized noBody l f q e = absurd (let z : _≡_ {A = ℕ} 0 1 = cc in omega arith)
+said-sized notGiven l f q e = absurd (let z : _≡_ {A = ℕ} 0 1 = cc in omega arith)
+said-sized (sized n) l f q e =
+    let g : _≡_ {A = Length} (record { 0 = l }) f = cc in
+    let h : l ≡ f .0 = ap (λ (x : Length). x .0) g in
+    let r = a2-sized l n q in
+    (omega (arith, r .0), omega (arith, r .1))
+
+pick-data : (a b : Bool) (p : Prefix) (f : Length) → cond a NoByte (cond b Marked p) ≡ Data f → p ≡ Data f
+pick-data true b p f e = absurd (let z : _≡_ {A = ℕ} 0 1 = cc in omega arith)
+pick-data false true p f e = absurd (let z : _≡_ {A = ℕ} 0 1 = cc in omega arith)
+pick-data false false p f e = e
+
+pub prefix-data : (s : List ℕ) (f : Length) → prefixOf s ≡ Data f → (8 ≤ f .0) × (f .0 ≤ 27)
+unfolding prefixOf prefixByte
+prefix-data s f e =
+    let b = getD s 0 0 in
+    said-sized (tableA2 (fieldL b)) (fieldL b) f refl (pick-data (eqb (length s) 0) (eqb (fieldF b) 1) (said (tableA2 (fieldL b)) (fieldL b)) f e)

@@ -1,13 +1,14 @@
 -- The sizes of a frame's body: Table 22 by mode, Table A.2 by the field L. They name the same sizes, and neither number stands for the other.
 -- Assumes nothing.
 use mathlib.Core.Path.{_≡_, refl, sym, ap, _∙_}
-use mathlib.Core.Bool.{Bool, true, false, not, cond}
+use mathlib.Core.Bool.{Bool, true, false, not, cond, _&&_}
 use mathlib.Core.List.{List, [], _∷_}
 use Prim.Native.Nat.{ℕ, zero, suc, _+_, _-_, _*_, _≤_, _<_}
 use native.Mathlib.Omega.{arith}
-use lib.Dec.{T, T-not, eqb, ltb, leb, eqb→eq}
+use lib.Dec.{T, T-not, eqb, ltb, leb, eqb→eq, leb→le}
 use lib.ListN.{length, getD, List·getD-eq-default}
-use borrow.Author.Tests.{eq-eqb, ne-eqb, lt-ltb, le-ltb, le-leb, lt-leb}
+use borrow.Author.Tests.{eq-eqb, ne-eqb, lt-ltb, le-ltb, le-leb, lt-leb, ltb-true, ltb-false, leb-true, leb-false}
+use Rattle.ground.specs.Cases.{by-bool, and-T}
 use Rattle.ground.specs.Tables.{every, every-at}
 use Rattle.prefix.specs.declared.Mode.{Mode}
 use Rattle.prefix.specs.declared.Length.{Length}
@@ -95,6 +96,19 @@ pub a2-above : (l : ℕ) → 27 < l → (lengthBytes l ≡ 0) × (modeOf l ≡ r
 unfolding lengthBytes modeOf
 a2-above l h = let e = a2-high l h in (ap bytesIn e, ap (λ (z : Size). named z l) e)
 
+-- a size is given for 8 to 27 alone
+pub a2-sized : (l n : ℕ) → tableA2 l ≡ sized n → (8 ≤ l) × (l ≤ 27)
+a2-sized l n e =
+    by-bool (ltb l 8) (λ t. absurd (below l (ltb-true l 8 t) e))
+    (λ t. by-bool (leb l 27) (λ u. (ltb-false l 8 t, leb-true l 27 u)) (λ u. absurd (never (a2-high l (leb-false l 27 u)) e)))
+  where
+    never : {z : Size} → z ≡ notGiven → z ≡ sized n → ⊥
+    never p q = let z : _≡_ {A = ℕ} 0 1 = cc in omega arith
+
+    below : (l : ℕ) → l < 8 → tableA2 l ≡ sized n → ⊥
+    below zero h q = let z : _≡_ {A = Size} noBody (sized n) = sym a2-none ∙ q in let w : _≡_ {A = ℕ} 0 1 = cc in omega arith
+    below (suc l) h q = never (a2-low (suc l) (omega arith) h) q
+
 -- ---- the two tables
 
 same : Size → ℕ → Bool
@@ -175,3 +189,15 @@ mode-ten m h = sym (length-bytes m (omega arith)) ∙ ap bytesIn (a2-ten (m + 8)
 pub mode-twenty : (m : ℕ) → 14 < m → m ≤ 19 → modeBytes m ≡ 20 * m - 60
 unfolding lengthBytes
 mode-twenty m p h = sym (length-bytes m (omega arith)) ∙ ap bytesIn (a2-twenty (m + 8) (omega arith) (omega arith)) ∙ omega arith
+
+-- a body has 80 to 320 bytes
+bounded : T (every (λ (m n : ℕ). leb 80 n && leb n 320) 0 table22)
+unfolding table22
+bounded = tt
+
+pub mode-bounds : (m : ℕ) → m < 20 → (80 ≤ modeBytes m) × (modeBytes m ≤ 320)
+unfolding modeBytes
+mode-bounds m h =
+    let n = getD table22 m 0 in
+    let t = and-T (leb 80 n) (leb n 320) (every-at (λ (m n : ℕ). leb 80 n && leb n 320) table22 0 bounded m (omega (arith, modes))) in
+    (leb→le 80 n (t .0), leb→le n 320 (t .1))

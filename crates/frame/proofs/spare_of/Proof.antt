@@ -1,0 +1,14 @@
+-- `frame::spare_of` meets its contract. Assumes nothing.
+use borrow.Author.Needs.{needs}
+use Rattle.frame.specs.Layout.{spare-none, spare-two}
+use Rattle.frame.proofs.spare_of.Statement.{statement}
+use Rattle.frame.proofs.spare_of.Tie as tie
+
+returns : tie.Need-returns
+returns c = spare-none _ (c .if1 .taken)
+
+returns-2 : tie.Need-returns-2
+returns-2 c = spare-two _ (c .if1 .left)
+
+pub spare-of-spec : {M : Type 1} → statement M
+spare-of-spec = tie.close (tie.spec returns returns-2)

@@ -1,0 +1,14 @@
+-- `frame::wide_of` meets its contract. Assumes nothing.
+use borrow.Author.Needs.{needs}
+use Rattle.frame.specs.Layout.{wide-small, wide-other}
+use Rattle.frame.proofs.wide_of.Statement.{statement}
+use Rattle.frame.proofs.wide_of.Tie as tie
+
+returns : tie.Need-returns
+returns c = wide-small _ _ (c .if1 .taken)
+
+returns-2 : tie.Need-returns-2
+returns-2 c = wide-other _ _ (c .if1 .left)
+
+pub wide-of-spec : {M : Type 1} → statement M
+wide-of-spec = tie.close (tie.spec returns returns-2)

@@ -1,0 +1,100 @@
+-- What reading a stored frame answers: the reply, the record, and what the lent slices hold afterwards (01, Numbered replies).
+-- Assumes nothing.
+use mathlib.Core.Path.{_≡_, refl, sym, ap, ap₂, _∙_}
+use mathlib.Core.Bool.{Bool, true, false, cond}
+use mathlib.Core.List.{List, [], _∷_, _++_}
+use Prim.Native.Nat.{ℕ, zero, suc, _+_, _-_, _*_, _≤_, _<_}
+use lib.Dec.{ltb}
+use lib.ListN.{length, getD, replicate, take, drop}
+use Rattle.ground.specs.Fills.{table}
+use Rattle.ground.specs.Replies.{done, noByte, marked, reserved, cut, shortRoom, noData}
+use Rattle.bits.specs.Bits.{view, val, bitsOf, bytesOf}
+use Rattle.bits.specs.Codings.{Answer, got, no, replyOf}
+use Rattle.prefix.specs.Sizes.{lengthBytes, modeBytes}
+use Rattle.prefix.specs.Prefix.{prefixOf}
+use Rattle.prefix.specs.declared.Prefix.{Prefix}
+use Rattle.prefix.specs.declared.Prefix.the-variants.{Data, NoData, NoByte, Marked, Reserved}
+use Rattle.frame.specs.Layout.{Frame, isTransient, flagL, flagN, flagC, frame}
+use Rattle.frame.specs.declared.Flags.{Flags}
+use Rattle.frame.specs.declared.Record.{Record}
+use Rattle.frame.specs.declared.Reading.{Reading}
+
+-- a reply alone; an empty frame; a frame of a mode
+pub data Outcome : Type 0 where
+  refused : ℕ → Outcome
+  empty : Outcome
+  sound : ℕ → Frame → Outcome
+
+abbrev pub outcome : ℕ → Answer Frame → Outcome
+outcome mode (got x r) = sound mode x
+outcome mode (no x) = refused (replyOf x)
+
+-- the body of a mode
+unfoldable pub readBody : ℕ → List ℕ → Outcome
+readBody mode body = outcome mode (frame (length body * 8) .read (bitsOf body))
+
+abbrev pub bodyOf : ℕ → List ℕ → List ℕ
+bodyOf n src = take n (drop 1 src)
+
+-- 1, 2, 3, 14, 4, then what the body says
+abbrev pub started : Prefix → List ℕ → Outcome
+started NoByte src = refused noByte
+started Marked src = refused marked
+started Reserved src = refused reserved
+started NoData src = empty
+started (Data l) src =
+    cond (ltb (lengthBytes (l .0)) (length src)) (readBody (l .0 - 8) (bodyOf (lengthBytes (l .0)) src)) (refused cut)
+
+-- 10 comes first: room for 800 numbers and 320 bytes
+unfoldable pub readAnswer : List ℕ → ℕ → ℕ → Outcome
+readAnswer src codes tail = cond (ltb codes 800) (refused shortRoom) (cond (ltb tail 320) (refused shortRoom) (started (prefixOf src) src))
+
+-- ---- the record, and the lent slices
+
+abbrev pub flagsOf : List Bool → Flags
+flagsOf f = record { transient = isTransient f; l = flagL f; n = flagN f; c = flagC f }
+
+abbrev pub noRecord : Record
+noRecord =
+    record { mode = 0; transient = false; «flag_l» = false; «flag_n» = false; «flag_c» = false; norms = replicate 44 0; noise = 0; «tail_bits» = 0 }
+
+abbrev pub stoppedAt : ℕ → ℕ → Reading
+stoppedAt reply next = record { reply = reply; next = next; «record» = noRecord }
+
+abbrev pub recordOf : ℕ → Frame → Record
+recordOf mode x =
+    record {
+      mode = mode;
+      transient = isTransient (x .0);
+      «flag_l» = flagL (x .0);
+      «flag_n» = flagN (x .0);
+      «flag_c» = flagC (x .0);
+      norms = x .1 .0;
+      noise = x .1 .1 .1 .0;
+      «tail_bits» = length (x .1 .1 .1 .1);
+    }
+
+-- 0 gives the next place size + 1, 14 gives 1
+abbrev pub readingOf : Outcome → Reading
+readingOf (refused x) = stoppedAt x 0
+readingOf empty = stoppedAt noData 1
+readingOf (sound mode x) = record { reply = done; next = modeBytes mode + 1; «record» = recordOf mode x }
+
+-- only 0 changes lent memory: the first 800 numbers and 320 bytes
+abbrev pub codesAfter : List ℕ → Outcome → List ℕ
+codesAfter codes (refused x) = codes
+codesAfter codes empty = codes
+codesAfter codes (sound mode x) = x .1 .1 .0 ++ drop 800 codes
+
+-- the tail's bits from the top, the rest 0
+unfoldable pub tailBytes : List Bool → List ℕ
+tailBytes b = bytesOf 320 (b ++ replicate (2560 - length b) false)
+
+abbrev pub tailAfter : List ℕ → Outcome → List ℕ
+tailAfter tail (refused x) = tail
+tailAfter tail empty = tail
+tailAfter tail (sound mode x) = tailBytes (x .1 .1 .1 .1) ++ drop 320 tail
+
+-- 320 bytes from a bit place on
+unfoldable pub tailFrom : List ℕ → ℕ → List ℕ
+tailFrom s at = table 320 (λ i. val (view s (at + i * 8) 8))

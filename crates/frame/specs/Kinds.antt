@@ -1,0 +1,77 @@
+-- What stands at each of the 800 places of a record (01, Coefficient codes): by the rate of the place's band.
+-- Assumes nothing.
+use mathlib.Core.Path.{_≡_}
+use mathlib.Core.Bool.{Bool, true, false, cond, _&&_}
+use mathlib.Core.List.{List}
+use Prim.Native.Nat.{ℕ, _+_, _-_, _/_, _%_, _≤_, _<_}
+use native.Mathlib.Omega.{arith}
+use lib.Dec.{leb, ltb, eqb}
+use lib.ListN.{length, getD}
+use borrow.Author.Tests.{lt-ltb, le-ltb, le-leb, lt-leb, eq-eqb, ne-eqb}
+use Rattle.ground.specs.Fills.{table, length-from}
+
+-- lengths by band: 0–15: 8; 16–23: 16; 24–35: 24; 36–43: 32
+unfoldable pub bandOf : ℕ → ℕ
+bandOf i =
+    cond (ltb i 128) (i / 8)
+    (cond (ltb i 256) (16 + (i - 128) / 16)
+    (cond (ltb i 544) (24 + (i - 256) / 24)
+    (36 + (i - 544) / 32)))
+
+-- Rate 0: nothing. Rate 1: one 8-bit index in the first of eight places. Rates 2–9: that many bits, or, if FlagC is 1 and the rate is 2–5, a word
+-- of Table 20 (kind rate + 14)
+unfoldable pub kindOf : Bool → ℕ → ℕ → ℕ
+kindOf flagC rate i = cond (eqb rate 1) (cond (eqb (i % 8) 0) 8 0) (cond (flagC && (leb 2 rate && leb rate 5)) (rate + 14) rate)
+
+unfoldable pub kinds : Bool → List ℕ → List ℕ
+kinds flagC rates = table 800 (λ i. kindOf flagC (getD rates (bandOf i) 0) i)
+
+pub length-kinds : (flagC : Bool) (rates : List ℕ) → length (kinds flagC rates) ≡ 800
+unfolding kinds
+length-kinds flagC rates = length-from (λ i. kindOf flagC (getD rates (bandOf i) 0) i) 800 0
+
+-- ---- the band of a place, by its four parts
+
+pub band-8 : (i : ℕ) → i < 128 → i / 8 ≡ bandOf i
+unfolding bandOf
+band-8 i h = rw (lt-ltb i 128 h)
+
+pub band-16 : (i : ℕ) → 128 ≤ i → i < 256 → 16 + (i - 128) / 16 ≡ bandOf i
+unfolding bandOf
+band-16 i p h = rw (le-ltb i 128 p, lt-ltb i 256 h)
+
+pub band-24 : (i : ℕ) → 256 ≤ i → i < 544 → 24 + (i - 256) / 24 ≡ bandOf i
+unfolding bandOf
+band-24 i p h = rw (le-ltb i 128 (omega arith), le-ltb i 256 p, lt-ltb i 544 h)
+
+pub band-32 : (i : ℕ) → 544 ≤ i → 36 + (i - 544) / 32 ≡ bandOf i
+unfolding bandOf
+band-32 i p = rw (le-ltb i 128 (omega arith), le-ltb i 256 (omega arith), le-ltb i 544 p)
+
+-- ---- the kind of a place, by the tests
+
+module _ (c : Bool) (rate i : ℕ) where
+  pub kind-first : rate ≡ 1 → i % 8 ≡ 0 → 8 ≡ kindOf c rate i
+  unfolding kindOf
+  kind-first h m = rw (eq-eqb rate 1 h, eq-eqb (i % 8) 0 m)
+
+  pub kind-none : rate ≡ 1 → (i % 8 ≡ 0 → ⊥) → 0 ≡ kindOf c rate i
+  unfolding kindOf
+  kind-none h m = rw (eq-eqb rate 1 h, ne-eqb (i % 8) 0 m)
+
+  module _ (h : rate ≡ 1 → ⊥) where
+    pub kind-word : c ≡ true → 2 ≤ rate → rate ≤ 5 → rate + 14 ≡ kindOf c rate i
+    unfolding kindOf
+    kind-word e l m = rw (ne-eqb rate 1 h, e, le-leb 2 rate l, le-leb rate 5 m)
+
+    pub kind-high : c ≡ true → 2 ≤ rate → 5 < rate → rate ≡ kindOf c rate i
+    unfolding kindOf
+    kind-high e l m = rw (ne-eqb rate 1 h, e, le-leb 2 rate l, lt-leb rate 5 m)
+
+    pub kind-low : c ≡ true → rate < 2 → rate ≡ kindOf c rate i
+    unfolding kindOf
+    kind-low e l = rw (ne-eqb rate 1 h, e, lt-leb 2 rate l)
+
+    pub kind-plain : c ≡ false → rate ≡ kindOf c rate i
+    unfolding kindOf
+    kind-plain e = rw (ne-eqb rate 1 h, e)

@@ -1,0 +1,5 @@
+pub mod Kinds
+pub mod Layout
+pub mod Places
+pub mod Answers
+pub mod Reads

@@ -1,0 +1,338 @@
+// The stored frame (01, Stored frame; 7.6, 7.8, 8.3, A.4.1): the record and its reading.
+ghost use mathlib.Core.Path.{_≡_};
+ghost use mathlib.Core.List.{_++_};
+ghost use Prim.Native.Nat.{ℕ, _+_, _-_, _*_, _≤_, _<_};
+ghost use lib.ListN.{length, drop};
+ghost use Rattle.bits.specs.Bits.{view, bit, val};
+ghost use Rattle.words.specs.Runs.{ran, runAt};
+ghost use Rattle.prefix.specs.Sizes.{modeBytes};
+ghost use Rattle.prefix.specs.Prefix.{prefixOf};
+ghost use Rattle.frame.specs.Kinds.{bandOf, kindOf, kinds};
+ghost use Rattle.frame.specs.Layout.{spare, wideIn, kindsAt};
+ghost use Rattle.frame.specs.Answers.{Outcome, flagsOf, stoppedAt, started, readBody, readAnswer, readingOf, codesAfter, tailAfter, tailFrom};
+ghost use Rattle.frame.specs.Reads.{Opened, keptOf, madeReading};
+use ground::replies::CUT;
+use ground::replies::DONE;
+use ground::replies::MARKED;
+use ground::replies::NO_BYTE;
+use ground::replies::NO_DATA;
+use ground::replies::RESERVED;
+use ground::replies::SHORT_ROOM;
+use prefix::Length;
+use prefix::Prefix;
+use words::runs::Run;
+
+// A frame's record, beside 800 codes and 320 tail bytes.
+#[repr(C)]
+pub struct Record {
+    pub mode: u8,
+    pub transient: bool,
+    pub flag_l: bool,
+    pub flag_n: bool,
+    pub flag_c: bool,
+    pub norms: [u8; 44],
+    pub noise: u8,
+    pub tail_bits: u16,
+}
+
+// What reading answers: 0 with the next place and the record; 14 with the next place; else the reply alone.
+#[repr(C)]
+pub struct Reading {
+    pub reply: u8,
+    pub next: usize,
+    pub record: Record,
+}
+
+pub struct Flags {
+    pub transient: bool,
+    pub l: bool,
+    pub n: bool,
+    pub c: bool,
+}
+
+// The band of a place.
+fn band_of(i: usize) -> usize
+    requires { ⌜ i < 800 ⌝ }
+    ensures { λ r. ⌜ (r ≡ bandOf i) × (r < 44) ⌝ }
+{
+    if i < 128 {
+        return i / 8;
+    }
+    if i < 256 {
+        return 16 + (i - 128) / 16;
+    }
+    if i < 544 {
+        return 24 + (i - 256) / 24;
+    }
+    36 + (i - 544) / 32
+}
+
+// The kind of a place, from its band's rate.
+fn kind_of(flag_c: bool, rate: u8, i: usize) -> u8
+    ensures { λ r. ⌜ r ≡ kindOf «flag_c» rate i ⌝ }
+{
+    if rate == 1 {
+        if i % 8 == 0 {
+            return 8;
+        }
+        return 0;
+    }
+    if flag_c {
+        if 2 <= rate {
+            if rate <= 5 {
+                return rate + words::CODE_WORDS;
+            }
+        }
+    }
+    rate
+}
+
+fn all_kinds(flag_c: bool, rates: [u8; 44]) -> [u8; 800]
+    ensures { λ r. ⌜ r ≡ kinds «flag_c» rates ⌝ }
+{
+    let mut out = [0u8; 800];
+    let mut i: usize = 0;
+    while i < 800 {
+        let b = band_of(i);
+        out[i] = kind_of(flag_c, rates[b], i);
+        i += 1;
+    }
+    out
+}
+
+// The noise bits: 2 if the frame is stationary.
+pub fn spare_of(transient: bool) -> usize
+    ensures { λ r. ⌜ r ≡ spare transient ⌝ }
+{
+    if transient { 0 } else { 2 }
+}
+
+// Whether bands 36 to 43 compete: FlagL acts at 80 bytes alone.
+fn wide_of(end: usize, flag_l: bool) -> bool
+    ensures { λ r. ⌜ r ≡ wideIn end «flag_l» ⌝ }
+{
+    if end == 640 { flag_l } else { true }
+}
+
+fn minus(a: usize, b: usize) -> usize
+    ensures { λ r. ⌜ r ≡ a - b ⌝ }
+{
+    if b < a { a - b } else { 0 }
+}
+
+// The kinds of the 800 places, from flags and norms whose bits end at a place.
+pub fn kinds_for(flags: Flags, norms: [u8; 44], at: usize, end: usize) -> [u8; 800]
+    requires { ⌜ end < 4294967296 ⌝ }
+    ensures { λ r. ⌜ r ≡ kindsAt (flags .transient) (wideIn end (flags .l)) (flags .c) norms (end - at - spare (flags .transient)) ⌝ }
+{
+    let transient = flags.transient;
+    let budget = minus(minus(end, at), spare_of(transient));
+    let shares = allotment::allot(transient, wide_of(end, flags.l), norms, budget as u32);
+    let rates = shares.rates;
+    all_kinds(flags.c, rates)
+}
+
+fn flag_at(s: &[u8], i: usize) -> bool
+    ensures { λ r. ⌜ r ≡ bit (now (s .entry)) i ⌝ }
+{
+    bits::read_bits(s, i, 1) == 1
+}
+
+fn read_flags(s: &[u8]) -> Flags
+    ensures { λ r. ⌜ r ≡ flagsOf (view (now (s .entry)) 0 4) ⌝ }
+{
+    Flags {
+        transient: flag_at(s, 0),
+        l: flag_at(s, 1),
+        n: flag_at(s, 2),
+        c: flag_at(s, 3),
+    }
+}
+
+// A reply without a record.
+fn refusal(reply: u8, next: usize) -> Reading
+    ensures { λ r. ⌜ r ≡ stoppedAt reply next ⌝ }
+{
+    Reading {
+        reply,
+        next,
+        record: Record {
+            mode: 0,
+            transient: false,
+            flag_l: false,
+            flag_n: false,
+            flag_c: false,
+            norms: [0u8; 44],
+            noise: 0,
+            tail_bits: 0,
+        },
+    }
+}
+
+fn copy_codes(found: &[u16], codes: &mut [u16])
+    requires { ⌜ (length (now found) ≡ 800) × (800 ≤ length (now codes)) ⌝ }
+    ensures { λ _. ⌜ now (codes .exit) ≡ now (found .entry) ++ drop 800 (now (codes .entry)) ⌝ }
+{
+    let mut i: usize = 0;
+    while i < 800 {
+        codes[i] = found[i];
+        i += 1;
+    }
+}
+
+// Reads the codes; a refusal leaves the lent numbers as they were.
+fn read_codes(s: &[u8], at: usize, end: usize, kinds: &[u8], codes: &mut [u16]) -> Run
+    requires { ⌜ (length (now kinds) ≡ 800) × (800 ≤ length (now codes)) ⌝ }
+    ensures { λ r. ⌜ (r ≡ ran at (end - at) (runAt (now (s .entry)) at end (now (kinds .entry))))
+        × (now (codes .exit) ≡ keptOf (now (codes .entry)) (runAt (now (s .entry)) at end (now (kinds .entry)))) ⌝ }
+{
+    let mut found = [0u16; 800];
+    let run = words::runs::read_words(s, at, end, kinds, &mut found);
+    let Run::Done(next) = run else {
+        return run;
+    };
+    copy_codes(&found, codes);
+    Run::Done(next)
+}
+
+// Fills the tail: 320 bytes from a bit place on.
+fn fill_tail(s: &[u8], at: usize, tail: &mut [u8])
+    requires { ⌜ (320 ≤ length (now tail)) × (at < 65536) ⌝ }
+    ensures { λ _. ⌜ now (tail .exit) ≡ tailFrom (now (s .entry)) at ++ drop 320 (now (tail .entry)) ⌝ }
+{
+    let mut i: usize = 0;
+    while i < 320 {
+        tail[i] = bits::read_bits(s, at + i * 8, 8) as u8;
+        i += 1;
+    }
+}
+
+fn made_reading(
+    mode: u8,
+    next: usize,
+    flags: Flags,
+    norms: [u8; 44],
+    noise: u8,
+    tail_bits: u16,
+) -> Reading
+    ensures { λ r. ⌜ r ≡ madeReading mode next flags norms noise «tail_bits» ⌝ }
+{
+    Reading {
+        reply: DONE,
+        next,
+        record: Record {
+            mode,
+            transient: flags.transient,
+            flag_l: flags.l,
+            flag_n: flags.n,
+            flag_c: flags.c,
+            norms,
+            noise,
+            tail_bits,
+        },
+    }
+}
+
+// The codes, noise and tail of a body whose norms end at a place.
+fn read_rest(
+    s: &[u8],
+    mode: u8,
+    flags: Flags,
+    norms: [u8; 44],
+    at: usize,
+    codes: &mut [u16],
+    tail: &mut [u8],
+) -> Reading
+    requires { ⌜ Opened (now s) norms at × (flags ≡ flagsOf (view (now s) 0 4)) ⌝ }
+    requires { ⌜ (length (now s) ≤ 320) × (length (now s) ≡ modeBytes mode) ⌝ }
+    requires { ⌜ (800 ≤ length (now codes)) × (320 ≤ length (now tail)) ⌝ }
+    ensures { λ r. ⌜ (r ≡ readingOf (readBody mode (now (s .entry))))
+        × (now (codes .exit) ≡ codesAfter (now (codes .entry)) (readBody mode (now (s .entry))))
+        × (now (tail .exit) ≡ tailAfter (now (tail .entry)) (readBody mode (now (s .entry)))) ⌝ }
+{
+    let end = s.len() * 8;
+    let k = spare_of(flags.transient);
+    let kinds = kinds_for(flags, norms, at, end);
+    let run = read_codes(s, at, end - k, &kinds, codes);
+    let Run::Done(next) = run else {
+        return refusal(words::runs::run_reply(run), 0);
+    };
+    let noise = bits::read_bits(s, next, k);
+    fill_tail(s, next + k, tail);
+    made_reading(
+        mode,
+        s.len() + 1,
+        flags,
+        norms,
+        noise as u8,
+        (end - (next + k)) as u16,
+    )
+}
+
+// A body of a mode.
+fn read_body(s: &[u8], mode: u8, codes: &mut [u16], tail: &mut [u8]) -> Reading
+    requires { ⌜ (80 ≤ length (now s)) × (length (now s) ≤ 320) × (length (now s) ≡ modeBytes mode) ⌝ }
+    requires { ⌜ (800 ≤ length (now codes)) × (320 ≤ length (now tail)) ⌝ }
+    ensures { λ r. ⌜ (r ≡ readingOf (readBody mode (now (s .entry))))
+        × (now (codes .exit) ≡ codesAfter (now (codes .entry)) (readBody mode (now (s .entry))))
+        × (now (tail .exit) ≡ tailAfter (now (tail .entry)) (readBody mode (now (s .entry)))) ⌝ }
+{
+    let flags = read_flags(s);
+    let part = norms::read_norms(s, 4, s.len() * 8, flags.transient, flags.n);
+    let reply = part.reply;
+    if reply != DONE {
+        return refusal(reply, 0);
+    }
+    let norms = part.norms;
+    read_rest(s, mode, flags, norms, part.next, codes, tail)
+}
+
+// A frame with data, as its prefix says.
+fn read_data(src: &[u8], field: Length, codes: &mut [u16], tail: &mut [u8]) -> Reading
+    requires { ⌜ Prefix.Data field ≡ prefixOf (now src) ⌝ }
+    requires { ⌜ (800 ≤ length (now codes)) × (320 ≤ length (now tail)) ⌝ }
+    ensures { λ r. ⌜ (r ≡ readingOf (started (Prefix.Data field) (now (src .entry))))
+        × (now (codes .exit) ≡ codesAfter (now (codes .entry)) (started (Prefix.Data field) (now (src .entry))))
+        × (now (tail .exit) ≡ tailAfter (now (tail .entry)) (started (Prefix.Data field) (now (src .entry)))) ⌝ }
+{
+    let n = field.bytes() as usize;
+    if src.len() <= n {
+        return refusal(CUT, 0);
+    }
+    let e = n + 1;
+    let body = &src[1..e];
+    let mode = field.0 - 8;
+    read_body(body, mode, codes, tail)
+}
+
+// Reads the stored frame at the start of a slice: 10, 1, 2, 3, 14, 4, 5, then 6 or 7, first met. Only 0 changes the lent numbers and bytes.
+pub fn read(src: &[u8], codes: &mut [u16], tail: &mut [u8]) -> Reading
+    ensures { λ r. ⌜ (r ≡ readingOf (readAnswer (now (src .entry)) (length (now (codes .entry))) (length (now (tail .entry)))))
+        × (now (codes .exit) ≡ codesAfter (now (codes .entry)) (readAnswer (now (src .entry)) (length (now (codes .entry))) (length (now (tail .entry)))))
+        × (now (tail .exit) ≡ tailAfter (now (tail .entry)) (readAnswer (now (src .entry)) (length (now (codes .entry))) (length (now (tail .entry))))) ⌝ }
+{
+    if codes.len() < 800 {
+        return refusal(SHORT_ROOM, 0);
+    }
+    if tail.len() < 320 {
+        return refusal(SHORT_ROOM, 0);
+    }
+    let p = prefix::read_prefix(src);
+    match p {
+        Prefix::NoByte => {
+            return refusal(NO_BYTE, 0);
+        }
+        Prefix::Marked => {
+            return refusal(MARKED, 0);
+        }
+        Prefix::Reserved => {
+            return refusal(RESERVED, 0);
+        }
+        Prefix::NoData => {
+            return refusal(NO_DATA, 1);
+        }
+        Prefix::Data(l) => {
+            return read_data(src, l, codes, tail);
+        }
+    }
+}
