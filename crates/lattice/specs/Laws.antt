@@ -121,11 +121,11 @@ module _ (f : ℕ → Bool) where
 
 -- ---- equal points
 
-eqZ-refl : (z : ℤ) → eqZ z z ≡ true
+pub eqZ-refl : (z : ℤ) → eqZ z z ≡ true
 eqZ-refl (pos n) = eq-eqb n n refl
 eqZ-refl (negsuc n) = eq-eqb n n refl
 
-eqZ-eq : (z w : ℤ) → eqZ z w ≡ true → z ≡ w
+pub eqZ-eq : (z w : ℤ) → eqZ z w ≡ true → z ≡ w
 eqZ-eq (pos a) (pos b) e = ap pos (eqb-true a b e)
 eqZ-eq (pos a) (negsuc b) e = cc
 eqZ-eq (negsuc a) (pos b) e = cc

@@ -1,0 +1,468 @@
+// The codebook of rate 1 (001, 7.6.1, Tables 18 and 19; 01, "Rate 1"): the row of an index, and the index of a row.
+// A row is kept as a code: its high byte has a one for each place above 0, its low byte a one for each place below 0.
+ghost use mathlib.Core.Path.{_≡_};
+ghost use mathlib.Core.Bool.{Bool};
+ghost use Prim.Native.Nat.{ℕ, suc, _+_, _*_, _-_, _/_, _%_, _<_, _≤_, _^_};
+ghost use lib.Dec.{ltb};
+ghost use lib.ListN.{getD};
+ghost use lib.IntN.{ℤ, pos};
+ghost use Rattle.ground.specs.Whole.{Is};
+ghost use Rattle.codebook.specs.Codebook.{row, rowPoint, rowIndex};
+ghost use Rattle.codebook.specs.Packed.{weight, code, digit, entry, signClass, Found};
+ghost use Rattle.codebook.specs.Rows.{twos, signs};
+use ground::replies::DONE;
+use ground::replies::OUT_OF_RANGE;
+use lattice::Point;
+
+// Rows 0 to 127: 256 times the places of 2, and the places of -2
+const TWOS: [u16; 128] = [
+    1,
+    2,
+    4,
+    8,
+    16,
+    32,
+    64,
+    128,
+    256,
+    512,
+    1024,
+    2048,
+    4096,
+    8192,
+    16384,
+    32768,
+    3,
+    5,
+    9,
+    17,
+    33,
+    65,
+    129,
+    6,
+    10,
+    18,
+    34,
+    66,
+    130,
+    12,
+    20,
+    36,
+    68,
+    132,
+    24,
+    40,
+    72,
+    136,
+    48,
+    80,
+    144,
+    96,
+    160,
+    192,
+    513,
+    1025,
+    2049,
+    4097,
+    8193,
+    16385,
+    32769,
+    1026,
+    2050,
+    4098,
+    8194,
+    16386,
+    32770,
+    2052,
+    4100,
+    8196,
+    16388,
+    32772,
+    4104,
+    8200,
+    16392,
+    32776,
+    8208,
+    16400,
+    32784,
+    16416,
+    32800,
+    32832,
+    258,
+    260,
+    264,
+    272,
+    288,
+    320,
+    384,
+    516,
+    520,
+    528,
+    544,
+    576,
+    640,
+    1032,
+    1040,
+    1056,
+    1088,
+    1152,
+    2064,
+    2080,
+    2112,
+    2176,
+    4128,
+    4160,
+    4224,
+    8256,
+    8320,
+    16512,
+    768,
+    1280,
+    2304,
+    4352,
+    8448,
+    16640,
+    33024,
+    1536,
+    2560,
+    4608,
+    8704,
+    16896,
+    33280,
+    3072,
+    5120,
+    9216,
+    17408,
+    33792,
+    6144,
+    10240,
+    18432,
+    34816,
+    12288,
+    20480,
+    36864,
+    24576,
+    40960,
+    49152,
+];
+
+// Rows 128 to 255: the byte of signs, a one for a -1
+const SIGNS: [u8; 128] = [
+    3,
+    5,
+    9,
+    17,
+    33,
+    65,
+    129,
+    6,
+    10,
+    18,
+    34,
+    66,
+    130,
+    12,
+    20,
+    36,
+    68,
+    132,
+    24,
+    40,
+    72,
+    136,
+    48,
+    80,
+    144,
+    96,
+    160,
+    192,
+    15,
+    23,
+    39,
+    71,
+    135,
+    27,
+    43,
+    75,
+    139,
+    51,
+    83,
+    147,
+    195,
+    163,
+    99,
+    29,
+    45,
+    77,
+    141,
+    53,
+    85,
+    149,
+    197,
+    165,
+    101,
+    113,
+    177,
+    209,
+    225,
+    57,
+    89,
+    153,
+    201,
+    169,
+    105,
+    240,
+    232,
+    216,
+    184,
+    120,
+    228,
+    212,
+    180,
+    116,
+    204,
+    172,
+    108,
+    60,
+    92,
+    156,
+    226,
+    210,
+    178,
+    114,
+    202,
+    170,
+    106,
+    58,
+    90,
+    154,
+    30,
+    46,
+    78,
+    142,
+    198,
+    166,
+    102,
+    54,
+    86,
+    150,
+    252,
+    250,
+    246,
+    238,
+    222,
+    190,
+    126,
+    249,
+    245,
+    237,
+    221,
+    189,
+    125,
+    243,
+    235,
+    219,
+    187,
+    123,
+    231,
+    215,
+    183,
+    119,
+    207,
+    175,
+    111,
+    159,
+    95,
+    63,
+    255,
+    0,
+];
+
+pub struct Row {
+    pub reply: u8,
+    pub index: u8,
+}
+
+// The rows from one on and below another
+struct Span {
+    from: usize,
+    to: usize,
+}
+
+fn two_code(n: usize) -> u32
+    requires { ⌜ n < 128 ⌝ }
+    ensures { λ c. ⌜ (c ≡ getD twos n 0) × (c < 65536) ⌝ }
+{
+    TWOS[n] as u32
+}
+
+fn sign_byte(n: usize) -> u32
+    requires { ⌜ n < 128 ⌝ }
+    ensures { λ s. ⌜ (s ≡ getD signs n 0) × (s < 256) ⌝ }
+{
+    SIGNS[n] as u32
+}
+
+// The code of a row
+fn code_at(n: usize) -> u32
+    requires { ⌜ n < 256 ⌝ }
+    ensures { λ c. ⌜ (c ≡ code (row n)) × (c < 65536) ⌝ }
+{
+    if n < 128 {
+        return two_code(n);
+    }
+    let s = sign_byte(n - 128);
+    (255 - s) * 256 + s
+}
+
+fn has(b: u32, i: usize) -> bool
+    requires { ⌜ i < 8 ⌝ }
+    ensures { λ t. ⌜ t ≡ digit b i ⌝ }
+{
+    (b >> i) % 2 == 1
+}
+
+fn entry_of(two: bool, plus: bool, minus: bool) -> i16
+    ensures { λ z. ⌜ z ≡ entry two plus minus ⌝ }
+{
+    if plus {
+        if two {
+            return 2;
+        }
+        return 1;
+    }
+    if minus {
+        if two {
+            return -2;
+        }
+        return -1;
+    }
+    0
+}
+
+fn row_list(n: usize) -> [i16; 8]
+    requires { ⌜ n < 256 ⌝ }
+    ensures { λ v. ⌜ v ≡ row n ⌝ }
+{
+    let c = code_at(n);
+    let mut v = [0i16; 8];
+    for i in 0usize..8 {
+        let z = entry_of(n < 128, has(c / 256, i), has(c % 256, i));
+        v[i] = z;
+    }
+    v
+}
+
+// The point that an index names: 0 and the row; 8 for a rate that is not 1 or an index over 255.
+pub fn codebook_point(rate: u8, index: u16) -> Point
+    ensures { λ p. ⌜ p ≡ rowPoint rate index ⌝ }
+{
+    if rate == 1 {
+        let n = index as usize;
+        if n < 256 {
+            let v = row_list(n);
+            return Point { reply: DONE, at: v };
+        }
+    }
+    Point {
+        reply: OUT_OF_RANGE,
+        at: [0, 0, 0, 0, 0, 0, 0, 0],
+    }
+}
+
+// What a number adds to a code, times 2 to its place
+fn weight_of(z: i16) -> u32
+    ensures { λ w. ⌜ (w ≡ weight z) × (w ≤ 256) ⌝ }
+{
+    let u = lattice::raise(z);
+    if 32768 < u {
+        return 256;
+    }
+    if u < 32768 {
+        return 1;
+    }
+    0
+}
+
+// The code of a vector
+fn code_of(v: &[i16; 8]) -> u32
+    ensures { λ c. ⌜ (c ≡ code (now (v .entry))) × (c < 65536) ⌝ }
+{
+    let mut c: u32 = 0;
+    for i in 0usize..8 {
+        let z = v[i];
+        c += weight_of(z) << i;
+    }
+    c
+}
+
+// The class of a byte of signs, told by how many ones it has
+fn sign_class(n: u32) -> Span
+    ensures { λ s. ⌜ (s .from ≡ signClass n .from) × (s .to ≡ signClass n .to) × (s .from ≤ s .to) × (s .to ≤ 256) ⌝ }
+{
+    if n == 2 {
+        return Span { from: 128, to: 156 };
+    }
+    if n == 4 {
+        return Span { from: 156, to: 226 };
+    }
+    if n == 6 {
+        return Span { from: 226, to: 254 };
+    }
+    if n == 8 {
+        return Span { from: 254, to: 255 };
+    }
+    Span { from: 255, to: 256 }
+}
+
+// The first row with this code, from one on and below another
+fn find_code(x: u32, from: usize, to: usize) -> usize
+    requires { ⌜ (from ≤ to) × (to ≤ 256) ⌝ }
+    ensures { λ n. ⌜ Found x from to n ⌝ }
+{
+    let mut i = from;
+    while i < to {
+        if code_at(i) == x {
+            return i;
+        }
+        i += 1;
+    }
+    i
+}
+
+// The one row that can have this code, or 256
+fn seek_row(x: u32) -> usize
+    requires { ⌜ x < 65536 ⌝ }
+    ensures { λ n. ⌜ (n ≤ 256) × ((j : ℕ) → j < 256 → code (row j) ≡ x → j ≡ n) ⌝ }
+{
+    let byte = x % 256;
+    if x / 256 + byte == 255 {
+        let s = sign_class(u32::count_ones(byte));
+        let from = s.from;
+        let to = s.to;
+        return find_code(x, from, to);
+    }
+    find_code(x, 0, 128)
+}
+
+// The index that names a point: 0 and its number; 8 for a rate that is not 1 or a vector that is no row.
+pub fn codebook_index(rate: u8, point: &[i16; 8]) -> Row
+    ensures { λ a. ⌜ a ≡ rowIndex rate (now (point .entry)) ⌝ }
+{
+    if rate == 1 {
+        let n = seek_row(code_of(point));
+        if n < 256 {
+            let w = row_list(n);
+            if lattice::same(&w, point) {
+                return Row {
+                    reply: DONE,
+                    index: n as u8,
+                };
+            }
+        }
+    }
+    Row {
+        reply: OUT_OF_RANGE,
+        index: 0,
+    }
+}
