@@ -42,7 +42,8 @@ pub fn raise(v: i16) -> u32
     ((v as i32) + 32768) as u32
 }
 
-fn lower(u: u32) -> i16
+// u − 32768, as a signed number
+pub fn lower(u: u32) -> i16
     requires { ⌜ u < 65536 ⌝ }
     ensures { λ v. ⌜ Is v u 32768 ⌝ }
 {
