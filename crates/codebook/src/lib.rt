@@ -7,7 +7,7 @@ ghost use lib.Dec.{ltb};
 ghost use lib.ListN.{getD};
 ghost use lib.IntN.{ℤ, pos};
 ghost use Rattle.ground.specs.Whole.{Is};
-ghost use Rattle.codebook.specs.Codebook.{row, rowPoint, rowIndex};
+ghost use Rattle.codebook.specs.Codebook.{row, rowPoint, noRow, rowIndex};
 ghost use Rattle.codebook.specs.Packed.{weight, code, digit, entry, signClass, Found};
 ghost use Rattle.codebook.specs.Rows.{twos, signs};
 use ground::replies::DONE;
@@ -97,17 +97,15 @@ fn row_list(n: usize) -> [i16; 8]
 pub fn codebook_point(rate: u8, index: u16) -> Point
     ensures { λ p. ⌜ p ≡ rowPoint rate index ⌝ }
 {
-    if rate == 1 {
-        let n = index as usize;
-        if n < 256 {
-            let v = row_list(n);
-            return Point { reply: DONE, at: v };
-        }
+    if rate != 1 {
+        return lattice::no_point();
     }
-    Point {
-        reply: OUT_OF_RANGE,
-        at: [0, 0, 0, 0, 0, 0, 0, 0],
+    let n = index as usize;
+    if n < 256 {
+        let v = row_list(n);
+        return Point { reply: DONE, at: v };
     }
+    lattice::no_point()
 }
 
 // What a number adds to a code, times 2 to its place
@@ -185,24 +183,33 @@ fn seek_row(x: u32) -> usize
     find_code(x, 0, 128)
 }
 
-// The index that names a point: 0 and its number; 8 for a rate that is not 1 or a vector that is no row.
-pub fn codebook_index(rate: u8, point: &[i16; 8]) -> Row
-    ensures { λ a. ⌜ a ≡ rowIndex rate (now (point .entry)) ⌝ }
+// A refused index call
+fn no_row() -> Row
+    ensures { λ a. ⌜ a ≡ noRow ⌝ }
 {
-    if rate == 1 {
-        let n = seek_row(code_of(point));
-        if n < 256 {
-            let w = row_list(n);
-            if lattice::same(&w, point) {
-                return Row {
-                    reply: DONE,
-                    index: n as u8,
-                };
-            }
-        }
-    }
     Row {
         reply: OUT_OF_RANGE,
         index: 0,
     }
+}
+
+// The index that names a point: 0 and its number; 8 for a rate that is not 1 or a vector that is no row.
+pub fn codebook_index(rate: u8, point: &[i16; 8]) -> Row
+    ensures { λ a. ⌜ a ≡ rowIndex rate (now (point .entry)) ⌝ }
+{
+    if rate != 1 {
+        return no_row();
+    }
+    let found = seek_row(code_of(point));
+    if 256 <= found {
+        return no_row();
+    }
+    let w = row_list(found);
+    if lattice::same(&w, point) {
+        return Row {
+            reply: DONE,
+            index: found as u8,
+        };
+    }
+    no_row()
 }

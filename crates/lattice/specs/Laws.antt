@@ -8,8 +8,8 @@ use Prim.Native.Nat.{ℕ, zero, suc, _+_, _*_, _-_, _/_, _%_, _<_, _≤_}
 use native.Mathlib.Nat.{mod-lt, div-add-mod, div-eq-of-lt-le, eq-or-lt-of-le, le-of-suc-le-suc}
 use native.Mathlib.Numerals.{add-one}
 use native.Mathlib.Omega.{arith}
-use borrow.Author.Tests.{ltb-true, ltb-false, eqb-true, eqb-false, eq-eqb, ne-eqb, lt-ltb, le-ltb}
-use lib.Dec.{ltb, eqb}
+use borrow.Author.Tests.{ltb-true, ltb-false, eqb-true, eqb-false, eq-eqb, ne-eqb, lt-ltb, le-ltb, leb-true}
+use lib.Dec.{ltb, leb, eqb}
 use lib.ListN.{length, getD}
 use lib.Seq.{ext-getD}
 use lib.IntN.{ℤ, pos, negsuc, natAbs, _-ℤ_, _*ℤ_, sucℤ, predℤ}
@@ -17,7 +17,7 @@ use lib.Signed.{ltZ}
 use Rattle.ground.specs.Cases.{by-bool, and-true}
 use Rattle.ground.specs.Whole.{Is, is-pos, is-same, is-neg, is-add, is-sub}
 use Rattle.lattice.specs.Lattice.{rounded, error, sumTo, sumZ, largest}
-use Rattle.lattice.specs.Answers.{allTo, eqZ, agree}
+use Rattle.lattice.specs.Answers.{allTo, owns, eqZ, agree}
 
 -- ---- whole numbers as differences
 
@@ -118,6 +118,14 @@ module _ (f : ℕ → Bool) where
   all-at (suc n) e i l =
       let b = and-true (f n) (allTo f n) e in
       ⊎-elim (λ q. rw q (b .0)) (λ q. all-at n (b .1) i q) (eq-or-lt-of-le (le-of-suc-le-suc l))
+
+-- ---- the rates
+
+pub owned-low : (rate : ℕ) → owns rate ≡ true → 2 ≤ rate
+owned-low rate e = leb-true 2 rate (and-true (leb 2 rate) (leb rate 9) e .0)
+
+pub owned-high : (rate : ℕ) → owns rate ≡ true → rate ≤ 9
+owned-high rate e = leb-true rate 9 (and-true (leb 2 rate) (leb rate 9) e .1)
 
 -- ---- equal points
 

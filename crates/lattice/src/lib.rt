@@ -8,7 +8,7 @@ ghost use lib.ListN.{getD, length};
 ghost use lib.IntN.{ℤ, pos};
 ghost use Rattle.ground.specs.Whole.{Is};
 ghost use Rattle.lattice.specs.Lattice.{sumTo, sumZ, x, rounded, error, roundedSum, largest, point, coordinate, backAt, back};
-ghost use Rattle.lattice.specs.Answers.{below, pointOf, agree, indexOf};
+ghost use Rattle.lattice.specs.Answers.{owns, below, noPoint, pointOf, agree, noIndex, indexOf};
 ghost use Rattle.lattice.specs.Inner.{Power, Error, Errors, away, changedPlace};
 use ground::replies::DONE;
 use ground::replies::OUT_OF_RANGE;
@@ -198,30 +198,48 @@ fn in_range(r: u32, k: &[u16; 8]) -> bool
     all
 }
 
+// Whether a rate is one of these calls' own
+fn owned(rate: u8) -> bool
+    ensures { λ b. ⌜ b ≡ owns rate ⌝ }
+{
+    if rate < 2 {
+        return false;
+    }
+    rate <= 9
+}
+
+// A refused point call
+pub fn no_point() -> Point
+    ensures { λ p. ⌜ p ≡ noPoint ⌝ }
+{
+    Point {
+        reply: OUT_OF_RANGE,
+        at: [0, 0, 0, 0, 0, 0, 0, 0],
+    }
+}
+
+// A refused index call
+fn no_index() -> Index
+    ensures { λ a. ⌜ a ≡ noIndex ⌝ }
+{
+    Index {
+        reply: OUT_OF_RANGE,
+        at: [0, 0, 0, 0, 0, 0, 0, 0],
+    }
+}
+
 // The point that an index names: 0 and the point; 8 for a rate outside 2 to 9 or an index of 2 to the rate or more.
 pub fn lattice_point(rate: u8, index: &[u16; 8]) -> Point
     ensures { λ p. ⌜ p ≡ pointOf rate (now (index .entry)) ⌝ }
 {
-    if rate < 2 {
-        return Point {
-            reply: OUT_OF_RANGE,
-            at: [0, 0, 0, 0, 0, 0, 0, 0],
-        };
-    }
-    if 9 < rate {
-        return Point {
-            reply: OUT_OF_RANGE,
-            at: [0, 0, 0, 0, 0, 0, 0, 0],
-        };
+    if !owned(rate) {
+        return no_point();
     }
     if in_range(power(rate), index) {
         let v = point_list(rate, index);
         return Point { reply: DONE, at: v };
     }
-    Point {
-        reply: OUT_OF_RANGE,
-        at: [0, 0, 0, 0, 0, 0, 0, 0],
-    }
+    no_point()
 }
 
 // v2 + … + v8, each raised
@@ -272,9 +290,9 @@ pub fn same(v: &[i16; 8], w: &[i16; 8]) -> bool
     ensures { λ t. ⌜ t ≡ agree (now (v .entry)) (now (w .entry)) 8 ⌝ }
 {
     let mut all = true;
-    for i in 0usize..8 {
-        let a = v[i];
-        let b = w[i];
+    for place in 0usize..8 {
+        let a = v[place];
+        let b = w[place];
         if raise(a) != raise(b) {
             all = false;
         }
@@ -286,25 +304,13 @@ pub fn same(v: &[i16; 8], w: &[i16; 8]) -> bool
 pub fn lattice_index(rate: u8, point: &[i16; 8]) -> Index
     ensures { λ a. ⌜ a ≡ indexOf rate (now (point .entry)) ⌝ }
 {
-    if rate < 2 {
-        return Index {
-            reply: OUT_OF_RANGE,
-            at: [0, 0, 0, 0, 0, 0, 0, 0],
-        };
-    }
-    if 9 < rate {
-        return Index {
-            reply: OUT_OF_RANGE,
-            at: [0, 0, 0, 0, 0, 0, 0, 0],
-        };
+    if !owned(rate) {
+        return no_index();
     }
     let k = back_list(rate, point);
     let v = point_list(rate, &k);
     if same(&v, point) {
         return Index { reply: DONE, at: k };
     }
-    Index {
-        reply: OUT_OF_RANGE,
-        at: [0, 0, 0, 0, 0, 0, 0, 0],
-    }
+    no_index()
 }

@@ -15,10 +15,10 @@ use Rattle.lattice.proofs.same.Statement.{statement}
 use Rattle.lattice.proofs.same.Tie as tie
 
 abbrev Inv-loop : tie.InvT-loop
-Inv-loop v w all₀ i₀ all i = (i ≤ 8) × (all ≡ agree v w i)
+Inv-loop v w all₀ place₀ all place = (place ≤ 8) × (all ≡ agree v w place)
 
 abbrev μ-loop : tie.MeasureT-loop
-μ-loop v w all₀ i₀ all i = 8 - i
+μ-loop v w all₀ place₀ all place = 8 - place
 
 loop-holds : tie.Need-loop-holds Inv-loop μ-loop
 unfolding agree allTo
@@ -42,8 +42,8 @@ raise-requires c κs = search needs
 raise-requires-2 : tie.Need-raise-requires-2 Inv-loop μ-loop
 raise-requires-2 c κs = search needs
 
-add-i : tie.Need-add-i Inv-loop μ-loop
-add-i c = search needs
+add-place : tie.Need-add-place Inv-loop μ-loop
+add-place c = search needs
 
 loop-less : tie.Need-loop-less Inv-loop μ-loop
 loop-less c = search needs
@@ -56,7 +56,7 @@ loop-again c =
     let l = t .before .before .before .before in
     let v = l .before .args .v .now in
     let w = l .before .args .w .now in
-    let i = l .loop .i in
+    let i = l .loop .place in
     let p = read (getD v i (pos 0)) (t .before .before .a .given) (t .raise .ensures .0) in
     let q = read (getD w i (pos 0)) (t .before .b .given) (s .raise2 .ensures .0) in
     let e = eqZ-is 32768 p q in
@@ -68,7 +68,7 @@ loop-again c =
 returns : tie.Need-returns Inv-loop μ-loop
 returns c =
     let l = c .before in
-    let e : l .loop .i ≡ 8 = omega arith in
+    let e : l .loop .place ≡ 8 = omega arith in
     l .loop .inv .1 ∙ ap (agree (l .before .args .v .now) (l .before .args .w .now)) e
 
 pub same-spec : {M : Type 1} → statement M
@@ -84,7 +84,7 @@ same-spec =
     element-copy-out-b
     raise-requires
     raise-requires-2
-    add-i
+    add-place
     loop-less
     loop-again
     returns)

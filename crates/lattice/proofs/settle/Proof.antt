@@ -10,13 +10,13 @@ sub-result : tie.Need-sub-result
 sub-result c = search needs
 
 returns : tie.Need-returns
-returns c = simp (c .before .if1 .taken, lt-ltb _ _ (c .if2 .taken)) (omega arith, omega arith)
+returns c = simp (c .before .if1 .taken, lt-ltb 32768 (c .before .before .args .e) (omega (arith, c .if2 .taken))) (omega arith, omega arith)
 
 add-result : tie.Need-add-result
 add-result c = search needs
 
 returns-2 : tie.Need-returns-2
-returns-2 c = simp (c .before .if1 .taken, le-ltb _ _ (c .if2 .left)) (omega arith, omega arith)
+returns-2 c = simp (c .before .if1 .taken, le-ltb 32768 (c .before .before .args .e) (omega (arith, c .if2 .left))) (omega arith, omega arith)
 
 returns-3 : tie.Need-returns-3
 returns-3 c = simp (c .if1 .left) (omega arith, omega arith)
