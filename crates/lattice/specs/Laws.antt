@@ -5,7 +5,7 @@ use mathlib.Core.Bool.{Bool, true, false, cond, _&&_}
 use mathlib.Core.Logic.{⊎-elim}
 use mathlib.Core.List.{List}
 use Prim.Native.Nat.{ℕ, zero, suc, _+_, _*_, _-_, _/_, _%_, _<_, _≤_}
-use native.Mathlib.Nat.{mod-lt, div-add-mod, div-eq-of-lt-le, eq-or-lt-of-le, le-of-suc-le-suc}
+use native.Mathlib.Nat.{mod-lt, div-add-mod, eq-or-lt-of-le, le-of-suc-le-suc}
 use native.Mathlib.Numerals.{add-one}
 use native.Mathlib.Omega.{arith}
 use borrow.Author.Tests.{ltb-true, ltb-false, eqb-true, eqb-false, eq-eqb, ne-eqb, lt-ltb, le-ltb, leb-true}
@@ -51,10 +51,6 @@ module _ (r x : ℕ) (l : 0 < r) where
       by-bool (ltb r (2 * (x % r)))
       (λ e. let h = ltb-true r (2 * (x % r)) e in rw e (omega arith, omega arith))
       (λ e. let h = ltb-false r (2 * (x % r)) e in rw e (omega arith, omega arith))
-
-  -- so it is computed by one division
-  pub rounded-by : r % 2 ≡ 0 → (x + (r / 2 - 1)) / r ≡ rounded r x
-  rounded-by h = div-eq-of-lt-le r (omega (arith, near .0, near .1)) (omega (arith, near .0, near .1))
 
   pub error-is : Is (error r x) x (r * rounded r x)
   unfolding error
