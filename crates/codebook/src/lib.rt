@@ -18,6 +18,7 @@ use tables::TWOS;
 
 mod tables;
 
+#[repr(C)]
 pub struct Row {
     pub reply: u8,
     pub index: u8,
@@ -29,30 +30,39 @@ struct Span {
     to: usize,
 }
 
-fn two_code(n: usize) -> u32
-    requires { ⌜ n < 128 ⌝ }
+fn two_code(low: &[u16; 128], n: usize) -> u32
+    requires { ⌜ (now low ≡ twos) × (n < 128) ⌝ }
     ensures { λ c. ⌜ (c ≡ getD twos n 0) × (c < 65536) ⌝ }
 {
-    TWOS[n] as u32
+    low[n] as u32
 }
 
-fn sign_byte(n: usize) -> u32
-    requires { ⌜ n < 128 ⌝ }
+fn sign_byte(high: &[u8; 128], n: usize) -> u32
+    requires { ⌜ (now high ≡ signs) × (n < 128) ⌝ }
     ensures { λ s. ⌜ (s ≡ getD signs n 0) × (s < 256) ⌝ }
 {
-    SIGNS[n] as u32
+    high[n] as u32
 }
 
-// The code of a row
+// The code of a row. The tables are lent, so that a search copies them once.
+fn code_in(low: &[u16; 128], high: &[u8; 128], n: usize) -> u32
+    requires { ⌜ (now low ≡ twos) × (now high ≡ signs) × (n < 256) ⌝ }
+    ensures { λ c. ⌜ (c ≡ code (row n)) × (c < 65536) ⌝ }
+{
+    if n < 128 {
+        return two_code(low, n);
+    }
+    let s = sign_byte(high, n - 128);
+    (255 - s) * 256 + s
+}
+
 fn code_at(n: usize) -> u32
     requires { ⌜ n < 256 ⌝ }
     ensures { λ c. ⌜ (c ≡ code (row n)) × (c < 65536) ⌝ }
 {
-    if n < 128 {
-        return two_code(n);
-    }
-    let s = sign_byte(n - 128);
-    (255 - s) * 256 + s
+    let low = TWOS;
+    let high = SIGNS;
+    code_in(&low, &high, n)
 }
 
 fn has(b: u32, i: usize) -> bool
@@ -154,13 +164,13 @@ fn sign_class(n: u32) -> Span
 }
 
 // The first row with this code, from one on and below another
-fn find_code(x: u32, from: usize, to: usize) -> usize
-    requires { ⌜ (from ≤ to) × (to ≤ 256) ⌝ }
+fn find_code(low: &[u16; 128], high: &[u8; 128], x: u32, from: usize, to: usize) -> usize
+    requires { ⌜ (now low ≡ twos) × (now high ≡ signs) × (from ≤ to) × (to ≤ 256) ⌝ }
     ensures { λ n. ⌜ Found x from to n ⌝ }
 {
     let mut i = from;
     while i < to {
-        if code_at(i) == x {
+        if code_in(low, high, i) == x {
             return i;
         }
         i += 1;
@@ -173,14 +183,16 @@ fn seek_row(x: u32) -> usize
     requires { ⌜ x < 65536 ⌝ }
     ensures { λ n. ⌜ (n ≤ 256) × ((j : ℕ) → j < 256 → code (row j) ≡ x → j ≡ n) ⌝ }
 {
+    let low = TWOS;
+    let high = SIGNS;
     let byte = x % 256;
     if x / 256 + byte == 255 {
         let s = sign_class(u32::count_ones(byte));
         let from = s.from;
         let to = s.to;
-        return find_code(x, from, to);
+        return find_code(&low, &high, x, from, to);
     }
-    find_code(x, 0, 128)
+    find_code(&low, &high, x, 0, 128)
 }
 
 // A refused index call

@@ -13,11 +13,13 @@ ghost use Rattle.lattice.specs.Inner.{Power, Error, Errors, away, change
 use ground::replies::DONE;
 use ground::replies::OUT_OF_RANGE;
 
+#[repr(C)]
 pub struct Point {
     pub reply: u8,
     pub at: [i16; 8],
 }
 
+#[repr(C)]
 pub struct Index {
     pub reply: u8,
     pub at: [u16; 8],

@@ -1,11 +1,12 @@
 -- `codebook::seek_row` meets its contract: the rows that it searches are those in which the row of the code must lie.
 -- Assumes nothing.
-use mathlib.Core.Path.{_≡_, sym, ap, _∙_}
+use mathlib.Core.Path.{refl}
 use Prim.Native.Nat.{ℕ, _+_, _/_, _%_}
 use native.Mathlib.Omega.{arith}
 use borrow.Author.Needs.{needs}
 use lib.Count.{ones}
 use Rattle.codebook.specs.Packed.{signClass}
+use Rattle.codebook.specs.Rows.{twos, signs}
 use Rattle.codebook.proofs.Seek.{sought, by-ones, by-half}
 use Rattle.codebook.proofs.seek_row.Statement.{statement}
 use Rattle.codebook.proofs.seek_row.Tie as tie
@@ -17,11 +18,12 @@ sign-class-requires : tie.Need-sign-class-requires
 sign-class-requires c κs = search needs
 
 find-code-requires : tie.Need-find-code-requires
-find-code-requires c κs = search needs
+unfolding twos signs
+find-code-requires c κs = (refl, refl, search needs, search needs)
 
 returns : tie.Need-returns
 returns c =
-    let k = c .before in
+    let k = c .before .before .before in
     let t = k .before in
     let x = t .before .args .x in
     let s = signClass (ones (x % 256)) in
@@ -32,13 +34,15 @@ returns c =
     )
 
 find-code-requires-2 : tie.Need-find-code-requires-2
-find-code-requires-2 c κs = search needs
+unfolding twos signs
+find-code-requires-2 c κs = (refl, refl, search needs, search needs)
 
 returns-2 : tie.Need-returns-2
 returns-2 c =
-    let x = c .before .before .args .x in (
+    let e = c .before .before .before in
+    let x = e .before .args .x in (
       omega (arith, c .find-code2 .ensures .high),
-      sought x (c .find-code2 .result) 0 128 (c .find-code2 .ensures) (omega arith) (λ j. by-half x j (c .before .if1 .left)),
+      sought x (c .find-code2 .result) 0 128 (c .find-code2 .ensures) (omega arith) (λ j. by-half x j (e .if1 .left)),
     )
 
 pub seek-row-spec : {M : Type 1} → statement M
