@@ -1,7 +1,7 @@
 -- A search of the rows in which a code's row must lie finds the one row with that code, since no two rows have one code.
 -- Assumes nothing.
 use mathlib.Core.Path.{_≡_, refl, sym, ap, _∙_}
-use mathlib.Core.Bool.{Bool, true, false, _&&_}
+use mathlib.Core.Bool.{true, false}
 use mathlib.Core.List.{List}
 use Prim.Native.Nat.{ℕ, _+_, _/_, _%_, _<_, _≤_}
 use native.Mathlib.Omega.{arith}
@@ -19,8 +19,7 @@ use Rattle.lattice.specs.Laws.{all-yes, all-at, eqZ-eq, eqZ-refl}
 use Rattle.codebook.specs.Codebook.{row, book, eight, placeOf, rowIndex, noRow}
 use Rattle.codebook.specs.Packed.{code, signClass, Found}
 use Rattle.codebook.specs.Rows.{row-long, code-apart, in-class, in-half}
-use Rattle.codebook.specs.OneToOne.{Names, place-names, place-of}
-use Rattle.codebook.specs.declared.Row.{Row}
+use Rattle.codebook.specs.OneToOne.{place-names, place-of}
 
 module _ (x n from to : ℕ) (f : Found x from to n) (small : to ≤ 256) (there : (j : ℕ) → j < 256 → code (row j) ≡ x → (from ≤ j) × (j < to)) where
   pub sought : (j : ℕ) → j < 256 → code (row j) ≡ x → j ≡ n

@@ -2,23 +2,21 @@
 -- No two rows have one code, so no two rows are alike.
 -- Assumes nothing.
 use mathlib.Core.Path.{_≡_, refl, sym, ap, _∙_}
-use mathlib.Core.Bool.{Bool, true, false, cond, _&&_}
+use mathlib.Core.Bool.{Bool, true, false, cond}
 use mathlib.Core.List.{List, [], _∷_}
 use Prim.Native.Nat.{ℕ, zero, suc, _<_, _≤_}
 use native.Mathlib.Omega.{arith}
-use borrow.Author.Tests.{lt-ltb, le-ltb, ltb-true, eq-eqb, ne-eqb}
-use lib.Dec.{eqb, ltb}
+use borrow.Author.Tests.{lt-ltb, le-ltb, ltb-true, ne-eqb}
+use lib.Dec.{ltb}
 use lib.ListN.{length, getD}
 use lib.IntN.{ℤ, pos}
 use Rattle.ground.specs.Cases.{by-bool}
 use Rattle.ground.specs.Fills.{filled}
 use Rattle.ground.specs.Replies.{done, outOfRange}
 use Rattle.lattice.specs.Answers.{noPoint}
-use Rattle.lattice.specs.declared.Point.{Point}
 use Rattle.codebook.specs.Codebook.{book, row, eqRow, eight, placeOf, rowPoint, rowIndex, noRow}
 use Rattle.codebook.specs.Packed.{code}
 use Rattle.codebook.specs.Rows.{eqRow-eq, eqRow-refl, book-long, row-long, code-apart}
-use Rattle.codebook.specs.declared.Row.{Row}
 
 -- ---- the place of a row
 

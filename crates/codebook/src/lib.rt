@@ -1,12 +1,8 @@
 // The codebook of rate 1 (001, 7.6.1, Tables 18 and 19; 01, "Rate 1"): the row of an index, and the index of a row.
 // A row is kept as a code: its high byte has a one for each place above 0, its low byte a one for each place below 0.
 ghost use mathlib.Core.Path.{_≡_};
-ghost use mathlib.Core.Bool.{Bool};
-ghost use Prim.Native.Nat.{ℕ, suc, _+_, _*_, _-_, _/_, _%_, _<_, _≤_, _^_};
-ghost use lib.Dec.{ltb};
+ghost use Prim.Native.Nat.{ℕ, _<_, _≤_};
 ghost use lib.ListN.{getD};
-ghost use lib.IntN.{ℤ, pos};
-ghost use Rattle.ground.specs.Whole.{Is};
 ghost use Rattle.codebook.specs.Codebook.{row, rowPoint, noRow, rowIndex};
 ghost use Rattle.codebook.specs.Packed.{weight, code, digit, entry, signClass, Found};
 ghost use Rattle.codebook.specs.Rows.{twos, signs};

@@ -1,18 +1,18 @@
 -- The errors raised by 32768, as the code keeps them: they fill up place by place, and give the place to change and the coordinates.
 -- Assumes nothing.
-use mathlib.Core.Path.{_≡_, refl, sym, ap, subst, _∙_}
-use mathlib.Core.Bool.{Bool, true, false, cond, _&&_}
-use mathlib.Core.List.{List, [], _∷_}
-use Prim.Native.Nat.{ℕ, zero, suc, _+_, _*_, _-_, _%_, _<_, _≤_}
+use mathlib.Core.Path.{_≡_, refl, sym, _∙_}
+use mathlib.Core.Bool.{Bool, true, false, cond}
+use mathlib.Core.List.{List}
+use Prim.Native.Nat.{ℕ, _+_, _*_, _%_, _<_}
 use native.Mathlib.Omega.{arith}
 use borrow.Author.Count.{below-more}
-use borrow.Author.Tests.{eq-eqb, ne-eqb}
+use borrow.Author.Tests.{ne-eqb}
 use lib.Dec.{ltb, eqb}
-use lib.ListN.{length, getD, set, length-set}
+use lib.ListN.{getD, set, length-set}
 use lib.Seq.{getD-set-same, getD-set-other}
-use lib.IntN.{ℤ, pos, natAbs}
+use lib.IntN.{natAbs}
 use Rattle.ground.specs.Whole.{Is}
-use Rattle.lattice.specs.Lattice.{x, rounded, error, roundedSum, worst, largest, changed, coordinate}
+use Rattle.lattice.specs.Lattice.{x, error, roundedSum, worst, largest, changed, coordinate}
 use Rattle.lattice.specs.Inner.{Error, Errors, away, changedPlace}
 use Rattle.lattice.specs.Inverse.{settled}
 use Rattle.lattice.specs.Laws.{is-abs, largest-alike}

@@ -12,7 +12,7 @@ use lib.Dec.{eqb, ltb}
 use lib.ListN.{length, getD}
 use lib.IntN.{ℤ, pos, negsuc, sucℤ, predℤ, _-ℤ_}
 use lib.Signed.{shrZ, ltZ}
-use Rattle.ground.specs.Fills.{from, table, filled, getD-table, length-from}
+use Rattle.ground.specs.Fills.{from, filled, getD-table, length-from}
 use Rattle.ground.specs.Whole.{Is, modZ, is-pos, is-same, is-add, is-sub, is-half, is-mod}
 use Rattle.lattice.specs.Lattice.{point, coordinate, final, step, changed, error, worst, rounded, roundedSum, x, sumTo, sumZ, back, backAt, IsIndex}
 use Rattle.lattice.specs.Laws.{is-scale, is-cross, is-above, error-is, largest-lt}

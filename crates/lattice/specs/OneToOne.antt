@@ -1,24 +1,23 @@
 -- "At rates 2–9 lattice indices and points match one to one, any other point is refused": the theorem, and what it says of the two calls.
 -- It rests on one fact, that the way back from the point of an index leads to that index.
 -- Assumes nothing.
-use mathlib.Core.Path.{_≡_, refl, sym, ap, _∙_}
-use mathlib.Core.Bool.{Bool, true, false, cond, _&&_}
+use mathlib.Core.Path.{_≡_, sym, ap, _∙_}
+use mathlib.Core.Bool.{true, false}
 use mathlib.Core.Logic.{_⊎_, inl, inr, ⊎-elim}
 use mathlib.Core.List.{List}
 use Prim.Native.Nat.{ℕ, _^_, _<_, _≤_}
 use native.Mathlib.Omega.{arith}
-use borrow.Author.Tests.{lt-ltb, ltb-true, ltb-false, le-leb, lt-leb, leb-true, leb-false}
+use borrow.Author.Tests.{lt-ltb, ltb-true, le-leb, leb-true}
 use lib.Dec.{ltb, leb}
 use lib.ListN.{length, getD}
 use lib.IntN.{ℤ}
 use lib.Pow.{pow-pos}
-use Rattle.ground.specs.Cases.{by-bool, and-true}
+use Rattle.ground.specs.Cases.{by-bool}
 use Rattle.ground.specs.Replies.{done, outOfRange}
 use Rattle.lattice.specs.Lattice.{point, back, IsIndex}
-use Rattle.lattice.specs.Answers.{allTo, below, agree, owns, pointOf, indexOf, noPoint, noIndex}
+use Rattle.lattice.specs.Answers.{below, agree, owns, pointOf, indexOf, noPoint, noIndex}
 use Rattle.lattice.specs.Laws.{all-yes, all-at, agree-refl, agree-same}
 use Rattle.lattice.specs.Inverse.{back-point, back-index, point-long}
-use Rattle.lattice.specs.declared.Point.{Point}
 use Rattle.lattice.specs.declared.Index.{Index}
 
 -- k is an index of this rate, and v is the point that it names

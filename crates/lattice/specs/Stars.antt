@@ -2,14 +2,11 @@
 -- k2 = 3 alone: −1, −1, 0 …". And one point that is refused, since v1 − v2 − … is odd.
 use mathlib.Core.Path.{_≡_, refl}
 use mathlib.Core.List.{List, [], _∷_}
-use Prim.Native.Nat.{ℕ}
-use lib.IntN.{ℤ, pos, negsuc}
+use lib.IntN.{pos, negsuc}
 use Rattle.ground.specs.Fills.{from}
 use Rattle.ground.specs.Replies.{done}
 use Rattle.lattice.specs.Lattice.{x, rounded, error, roundedSum, worst, largest, changed, step, final, coordinate, point, backAt, back}
 use Rattle.lattice.specs.Answers.{allTo, below, agree, pointOf, indexOf, noIndex}
-use Rattle.lattice.specs.declared.Point.{Point}
-use Rattle.lattice.specs.declared.Index.{Index}
 
 -- a and b in the first two places, z in the others
 abbrev first : {A : Type 0} → A → A → A → List A

@@ -1,15 +1,15 @@
 // Lattice codes, rates 2 to 9 (001, 7.6.2; 01, "Coefficient codes"): the point of an index, and the index of a point.
 // A signed number stands as a natural one, raised by 32768; only raise and lower touch signed values.
 ghost use mathlib.Core.Path.{_≡_};
-ghost use mathlib.Core.Bool.{Bool, cond};
+ghost use mathlib.Core.Bool.{cond};
 ghost use lib.Dec.{eqb, ltb};
-ghost use Prim.Native.Nat.{ℕ, suc, _+_, _*_, _-_, _/_, _%_, _<_, _≤_, _^_};
-ghost use lib.ListN.{getD, length};
-ghost use lib.IntN.{ℤ, pos};
+ghost use Prim.Native.Nat.{ℕ, suc, _+_, _*_, _%_, _<_, _≤_, _^_};
+ghost use lib.ListN.{getD};
+ghost use lib.IntN.{pos};
 ghost use Rattle.ground.specs.Whole.{Is};
-ghost use Rattle.lattice.specs.Lattice.{sumTo, sumZ, x, rounded, error, roundedSum, largest, point, coordinate, backAt, back};
+ghost use Rattle.lattice.specs.Lattice.{sumTo, sumZ, x, rounded, roundedSum, largest, point, backAt, back};
 ghost use Rattle.lattice.specs.Answers.{owns, below, noPoint, pointOf, agree, noIndex, indexOf};
-ghost use Rattle.lattice.specs.Inner.{Power, Error, Errors, away, changedPlace};
+ghost use Rattle.lattice.specs.Inner.{Power, Error, Errors, away};
 use ground::replies::DONE;
 use ground::replies::OUT_OF_RANGE;
 

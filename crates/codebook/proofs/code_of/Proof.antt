@@ -1,6 +1,6 @@
 -- `codebook::code_of` meets its contract. The loop's invariant: the sum so far, below 256 times the next place's 2 ^ i.
 -- Assumes nothing.
-use mathlib.Core.Path.{_≡_, sym, ap, _∙_}
+use mathlib.Core.Path.{_≡_, ap, _∙_}
 use Prim.Native.Nat.{ℕ, suc, _+_, _*_, _-_, _%_, _^_, _≤_, _<_}
 use native.Mathlib.Nat.{mod-eq-of-lt, mul-le-mul-right}
 use native.Mathlib.Numerals.{add-one}

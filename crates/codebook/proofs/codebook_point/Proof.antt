@@ -1,13 +1,11 @@
 -- `codebook::codebook_point` meets its contract: each way out is a case of the definition.
 -- Assumes nothing.
-use mathlib.Core.Path.{_≡_, ap}
+use mathlib.Core.Path.{ap}
 use mathlib.Core.List.{List}
-use native.Mathlib.Omega.{arith}
 use borrow.Author.Needs.{needs}
 use borrow.Author.Tests.{eq-eqb, ne-eqb, lt-ltb, le-ltb}
 use lib.IntN.{ℤ}
 use Rattle.ground.specs.Replies.{done}
-use Rattle.lattice.specs.declared.Point.{Point}
 use Rattle.codebook.specs.Codebook.{rowPoint}
 use Rattle.codebook.proofs.codebook_point.Statement.{statement}
 use Rattle.codebook.proofs.codebook_point.Tie as tie

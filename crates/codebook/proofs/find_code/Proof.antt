@@ -6,7 +6,7 @@ use native.Mathlib.Omega.{arith}
 use native.Mathlib.Decide.{ℕ-discrete}
 use borrow.Author.Needs.{needs}
 use Rattle.codebook.specs.Codebook.{row}
-use Rattle.codebook.specs.Packed.{code, Found}
+use Rattle.codebook.specs.Packed.{code}
 use Rattle.codebook.proofs.find_code.Statement.{statement}
 use Rattle.codebook.proofs.find_code.Tie as tie
 

@@ -10,8 +10,7 @@ use lib.ListN.{length, getD, length-set}
 use mir.Facts.{toZ-ofZ}
 use mir.Syntax.{w16}
 use Rattle.ground.specs.Fills.{fill, filled}
-use Rattle.codebook.specs.Codebook.{row}
-use Rattle.codebook.specs.Packed.{code, digit, entry}
+use Rattle.codebook.specs.Packed.{digit, entry}
 use Rattle.codebook.specs.Rows.{unpack, row-unpacked, row-code}
 use Rattle.codebook.proofs.row_list.Statement.{statement}
 use Rattle.codebook.proofs.row_list.Tie as tie

@@ -1,6 +1,6 @@
 -- `lattice::back_first` meets its contract: half of the difference, raised by a multiple of 2 r, leaves the same remainder.
 -- Assumes nothing.
-use Prim.Native.Nat.{ℕ, _+_, _-_, _/_}
+use Prim.Native.Nat.{_+_, _-_, _/_}
 use native.Mathlib.Nat.{mod-lt}
 use native.Mathlib.Omega.{arith}
 use borrow.Author.Needs.{needs}

@@ -1,7 +1,7 @@
 -- `lattice::lattice_index` meets its contract: each way out is a case of the definition.
 -- Assumes nothing.
 use mathlib.Core.Path.{_≡_, sym, ap, _∙_}
-use mathlib.Core.Bool.{true, false}
+use mathlib.Core.Bool.{true}
 use mathlib.Core.List.{List}
 use Prim.Native.Nat.{ℕ, _^_}
 use borrow.Author.Needs.{needs}
@@ -10,7 +10,6 @@ use Rattle.ground.specs.Replies.{done}
 use Rattle.lattice.specs.Lattice.{point, back}
 use Rattle.lattice.specs.Answers.{owns, agree, indexOf}
 use Rattle.lattice.specs.Laws.{owned-low, owned-high}
-use Rattle.lattice.specs.declared.Index.{Index}
 use Rattle.lattice.proofs.lattice_index.Statement.{statement}
 use Rattle.lattice.proofs.lattice_index.Tie as tie
 

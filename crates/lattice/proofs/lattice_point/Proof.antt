@@ -1,7 +1,7 @@
 -- `lattice::lattice_point` meets its contract: each way out is a case of the definition.
 -- Assumes nothing.
 use mathlib.Core.Path.{_≡_, sym, ap, _∙_}
-use mathlib.Core.Bool.{true, false}
+use mathlib.Core.Bool.{true}
 use mathlib.Core.List.{List}
 use Prim.Native.Nat.{ℕ, _^_}
 use lib.IntN.{ℤ}
@@ -10,7 +10,6 @@ use borrow.Author.Tests.{not-true, not-false}
 use Rattle.ground.specs.Replies.{done}
 use Rattle.lattice.specs.Answers.{owns, below, pointOf}
 use Rattle.lattice.specs.Laws.{owned-low, owned-high}
-use Rattle.lattice.specs.declared.Point.{Point}
 use Rattle.lattice.proofs.lattice_point.Statement.{statement}
 use Rattle.lattice.proofs.lattice_point.Tie as tie
 

@@ -1,11 +1,9 @@
 -- `lattice::point_list` meets its contract. The loop fills eight coordinates from the errors, place by place.
 -- Assumes nothing.
-use mathlib.Core.Path.{_≡_, refl, sym, ap, subst, _∙_}
-use mathlib.Core.List.{List}
-use Prim.Native.Nat.{ℕ, _+_, _*_, _-_, _≤_, _<_, _^_}
+use mathlib.Core.Path.{_≡_, refl, _∙_}
+use Prim.Native.Nat.{ℕ, _-_, _≤_, _<_, _^_}
 use native.Mathlib.Omega.{arith}
 use borrow.Author.Needs.{needs, sfits-of}
-use lib.Dec.{eqb}
 use lib.IntN.{pos}
 use lib.ListN.{length, getD, length-set}
 use lib.Pow.{pow-pos}
@@ -14,7 +12,6 @@ use mir.Syntax.{w16}
 use Rattle.ground.specs.Fills.{fill, filled}
 use Rattle.ground.specs.Whole.{is-unique}
 use Rattle.lattice.specs.Lattice.{point, coordinate}
-use Rattle.lattice.specs.Inner.{Errors, changedPlace}
 use Rattle.lattice.proofs.Raised.{changed-place, coordinate-of}
 use Rattle.lattice.proofs.point_list.Statement.{statement}
 use Rattle.lattice.proofs.point_list.Tie as tie

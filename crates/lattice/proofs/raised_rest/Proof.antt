@@ -6,7 +6,7 @@ use native.Mathlib.Numerals.{add-one}
 use native.Mathlib.Omega.{arith}
 use borrow.Author.Needs.{needs}
 use lib.ListN.{getD}
-use lib.IntN.{ℤ, pos}
+use lib.IntN.{pos}
 use Rattle.ground.specs.Whole.{Is, is-same}
 use Rattle.lattice.specs.Lattice.{sumZ}
 use Rattle.lattice.specs.Laws.{sumZ-more}

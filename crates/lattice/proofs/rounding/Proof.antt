@@ -1,9 +1,8 @@
 -- `lattice::rounding` meets its contract. The loop's invariant: the sum of the rounded numbers so far, and so many errors in place.
 -- Assumes nothing.
-use mathlib.Core.Path.{_≡_, refl, sym, ap, subst, _∙_}
-use Prim.Native.Nat.{ℕ, _+_, _*_, _-_, _≤_, _^_}
+use mathlib.Core.Path.{_≡_, refl, ap, subst, _∙_}
+use Prim.Native.Nat.{ℕ, _*_, _-_, _≤_}
 use native.Mathlib.Omega.{arith}
-use mathlib.Core.List.{List}
 use borrow.Author.Needs.{needs}
 use Rattle.lattice.specs.Lattice.{x, rounded, roundedSum, sumTo}
 use Rattle.lattice.specs.Inner.{Error, Errors}
