@@ -7,9 +7,8 @@ use lib.Dec.{eqb, ltb}
 use lib.ListN.{length, getD, take, drop}
 use lib.IntN.{ℤ, pos}
 use Rattle.ground.specs.Fills.{from, table}
-use Rattle.lattice.specs.Answers.{eqZ}
 use Rattle.ground.specs.Replies.{done, outOfRange}
-use Rattle.lattice.specs.Answers.{noPoint}
+use Rattle.lattice.specs.Answers.{eqZ, noPoint}
 use Rattle.lattice.specs.declared.Point.{Point}
 use Rattle.codebook.specs.declared.Row.{Row}
 use Rattle.codebook.specs.Table18.{printed, -2, -1, +0, +1, +2}
@@ -72,15 +71,18 @@ abbrev pub among : List ℤ → List (List ℤ) → Bool
 among v [] = false
 among v (w ∷ ws) = eqRow v w || among v ws
 
--- "a printed row outside its class or equal to an earlier row is unsound": of each of the rows, whether it is sound
+-- "a printed row outside its class or equal to an earlier row is unsound": of each of a class's printed rows, whether it is sound;
+-- `all` are the vectors of the class, `earlier` the rows printed before
 abbrev pub sound : List (List ℤ) → List (List ℤ) → List (List ℤ) → List Bool
 sound all earlier [] = []
 sound all earlier (v ∷ rows) = (among v all && not (among v earlier)) ∷ sound all (v ∷ earlier) rows
 
+-- v too, where it is wanted
 abbrev keep : Bool → List ℤ → List (List ℤ) → List (List ℤ)
 keep true v vs = v ∷ vs
 keep false v vs = vs
 
+-- the sound rows
 abbrev pub kept : List Bool → List (List ℤ) → List (List ℤ)
 kept [] rows = []
 kept (s ∷ ss) [] = []
@@ -102,15 +104,19 @@ fill (false ∷ ss) (v ∷ rows) (w ∷ new) = w ∷ fill ss rows new
 abbrev mend : List (List ℤ) → List Bool → List (List ℤ) → List (List ℤ)
 mend all marks rows = fill marks rows (missing all (kept marks rows))
 
-abbrev pub repaired : Class → List (List ℤ)
-repaired c =
-    mend (vectors c) (sound (vectors c) (take (c .first) printed) (take (length (vectors c)) (drop (c .first) printed))) (take (length (vectors c)) (drop (c .first) printed))
+-- the printed rows of a class
+abbrev pub part : Class → List (List ℤ)
+part c = take (length (vectors c)) (drop (c .first) printed)
 
+abbrev pub repaired : Class → List (List ℤ)
+repaired c = mend (vectors c) (sound (vectors c) (take (c .first) printed) (part c)) (part c)
+
+-- one class after the other
 abbrev pub each : List Class → List (List ℤ)
 each [] = []
 each (c ∷ cs) = repaired c ++ each cs
 
--- "Rows 226–253 go by the pair of 1-places in rising order."
+-- 1 at places i and j, −1 elsewhere
 abbrev pub pair : ℕ → ℕ → List ℤ
 pair i j = table 8 (λ (k : ℕ). cond (eqb k i || eqb k j) +1 -1)
 
@@ -118,6 +124,7 @@ abbrev pub join : List (List (List ℤ)) → List (List ℤ)
 join [] = []
 join (l ∷ ls) = l ++ join ls
 
+-- "Rows 226–253 go by the pair of 1-places in rising order."
 abbrev pub pairs : List (List ℤ)
 pairs = join (table 7 (λ (i : ℕ). from (pair i) (7 - i) (suc i)))
 

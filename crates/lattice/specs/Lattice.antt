@@ -69,7 +69,7 @@ point r k = table 8 (coordinate r k)
 
 -- ---- the way back
 
--- "(v1 − v2 − … − v8)/2, v2 … v8, each modulo r"
+-- "(v1 − v2 − … − v8)/2, v2 … v8, each modulo r"; an odd difference is halved downwards, and no index leads to such a point
 unfoldable pub backAt : ℕ → List ℤ → ℕ → ℕ
 backAt r v zero = modZ (shrZ (getD v 0 (pos 0) -ℤ sumZ (λ (i : ℕ). getD v (suc i) (pos 0)) 7) 2) r
 backAt r v (suc i) = modZ (getD v (suc i) (pos 0)) r
