@@ -1,0 +1,318 @@
+// Lattice codes, rates 2 to 9 (001, 7.6.2; 01, "Coefficient codes"): the point of an index, and the index of a point.
+// A signed number stands as a natural one, raised by 32768; only raise and lower touch signed values.
+ghost use mathlib.Core.Path.{_≡_};
+ghost use mathlib.Core.Bool.{cond};
+ghost use lib.Dec.{eqb, ltb};
+ghost use Prim.Native.Nat.{ℕ, suc, _+_, _*_, _%_, _<_, _≤_, _^_};
+ghost use lib.ListN.{getD};
+ghost use lib.IntN.{pos};
+ghost use Rattle.ground.specs.Whole.{Is};
+ghost use Rattle.lattice.specs.Lattice.{sumTo, sumZ, x, rounded, roundedSum, largest, point, backAt, back};
+ghost use Rattle.lattice.specs.Answers.{owns, below, noPoint, pointOf, agree, noIndex, indexOf};
+ghost use Rattle.lattice.specs.Inner.{Power, Error, Errors, away};
+use ground::replies::DONE;
+use ground::replies::OUT_OF_RANGE;
+
+#[repr(C)]
+pub struct Point {
+    pub reply: u8,
+    pub at: [i16; 8],
+}
+
+#[repr(C)]
+pub struct Index {
+    pub reply: u8,
+    pub at: [u16; 8],
+}
+
+// The sum of the rounded numbers of an index, and its eight errors, raised.
+struct Rounded {
+    sum: u32,
+    errors: [u32; 8],
+}
+
+fn wide(x: u16) -> u32
+    ensures { λ r. ⌜ (r ≡ x) × (r < 65536) ⌝ }
+{
+    x as u32
+}
+
+// v + 32768, for a signed v
+pub fn raise(v: i16) -> u32
+    ensures { λ u. ⌜ Is v u 32768 × (u < 65536) ⌝ }
+{
+    ((v as i32) + 32768) as u32
+}
+
+// u − 32768, as a signed number
+pub fn lower(u: u32) -> i16
+    requires { ⌜ u < 65536 ⌝ }
+    ensures { λ v. ⌜ Is v u 32768 ⌝ }
+{
+    ((u as i32) - 32768) as i16
+}
+
+// r, 2 to the rate
+fn power(rate: u8) -> u32
+    requires { ⌜ (2 ≤ rate) × (rate ≤ 9) ⌝ }
+    ensures { λ r. ⌜ Power rate r ⌝ }
+{
+    1u32 << rate
+}
+
+// The first x: 2 k1 + k2 + … + k8
+fn first_x(k: &[u16; 8]) -> u32
+    ensures { λ r. ⌜ (r ≡ 2 * getD (now (k .entry)) 0 0 + sumTo (λ (i : ℕ). getD (now (k .entry)) (suc i) 0) 7) × (r < 1000000) ⌝ }
+{
+    2 * wide(k[0])
+        + wide(k[1])
+        + wide(k[2])
+        + wide(k[3])
+        + wide(k[4])
+        + wide(k[5])
+        + wide(k[6])
+        + wide(k[7])
+}
+
+fn x_at(k: &[u16; 8], first: u32, i: usize) -> u32
+    requires { ⌜ (first ≡ x (now k) 0) × (first < 1000000) × (i < 8) ⌝ }
+    ensures { λ r. ⌜ (r ≡ x (now (k .entry)) i) × (r < 1000000) ⌝ }
+{
+    if i == 0 {
+        return first;
+    }
+    wide(k[i])
+}
+
+// x / r to the nearest whole number, half downwards
+fn round_of(r: u32, x: u32) -> u32
+    requires { ⌜ (4 ≤ r) × (r ≤ 512) × (r % 2 ≡ 0) × (x < 1000000) ⌝ }
+    ensures { λ q. ⌜ (q ≡ rounded r x) × (q < 1000512) ⌝ }
+{
+    (x + (r / 2 - 1)) / r
+}
+
+// The error x − r × rounded, raised
+fn error_of(r: u32, x: u32, q: u32) -> u32
+    requires { ⌜ (4 ≤ r) × (r ≤ 512) × (x < 1000000) × (q ≡ rounded r x) ⌝ }
+    ensures { λ e. ⌜ Error r x e ⌝ }
+{
+    x + 32768 - r * q
+}
+
+fn rounding(rate: u8, k: &[u16; 8]) -> Rounded
+    requires { ⌜ (2 ≤ rate) × (rate ≤ 9) ⌝ }
+    ensures { λ s. ⌜ (s .sum ≡ roundedSum (2 ^ rate) (now (k .entry))) × Errors (2 ^ rate) (now (k .entry)) (s .errors) 8 ⌝ }
+{
+    let r = power(rate);
+    let first = first_x(k);
+    let mut sum: u32 = 0;
+    let mut errors = [0u32; 8];
+    for i in 0usize..8 {
+        let x = x_at(k, first, i);
+        let q = round_of(r, x);
+        sum += q;
+        errors[i] = error_of(r, x, q);
+    }
+    Rounded {
+        sum: sum,
+        errors: errors,
+    }
+}
+
+// |e| of a raised e
+fn distance(e: u32) -> u32
+    ensures { λ d. ⌜ d ≡ away e ⌝ }
+{
+    if e < 32768 {
+        return 32768 - e;
+    }
+    e - 32768
+}
+
+// The first place of the largest |e|
+fn worst_place(errors: &[u32; 8]) -> usize
+    ensures { λ w. ⌜ (w ≡ largest (λ (i : ℕ). away (getD (now (errors .entry)) i 0)) 8) × (w < 8) ⌝ }
+{
+    let mut w: usize = 0;
+    let mut most = distance(errors[0]);
+    for i in 1usize..8 {
+        let here = distance(errors[i]);
+        if most < here {
+            w = i;
+            most = here;
+        }
+    }
+    w
+}
+
+// The place to change, 8 if there is none
+fn changed_place(s: Rounded) -> usize
+    ensures { λ w. ⌜ w ≡ cond (eqb (s .sum % 2) 1) (largest (λ (i : ℕ). away (getD (s .errors) i 0)) 8) 8 ⌝ }
+{
+    if s.sum % 2 == 1 {
+        let errors = s.errors;
+        return worst_place(&errors);
+    }
+    8
+}
+
+// The coordinate of an error, both raised: at the place that is changed, r less if e > 0, else r more
+fn settle(r: u32, e: u32, change: bool) -> u32
+    requires { ⌜ (r ≤ 512) × (e ≤ 33024) × (32512 ≤ e) ⌝ }
+    ensures { λ u. ⌜ (u + r * cond change (cond (ltb 32768 e) 1 0) 0 ≡ e + r * cond change (cond (ltb 32768 e) 0 1) 0) × (u < 65536) ⌝ }
+{
+    if change {
+        if 32768 < e {
+            return e - r;
+        }
+        return e + r;
+    }
+    e
+}
+
+fn point_list(rate: u8, k: &[u16; 8]) -> [i16; 8]
+    requires { ⌜ (2 ≤ rate) × (rate ≤ 9) ⌝ }
+    ensures { λ v. ⌜ v ≡ point (2 ^ rate) (now (k .entry)) ⌝ }
+{
+    let r = power(rate);
+    let s = rounding(rate, k);
+    let errors = s.errors;
+    let w = changed_place(s);
+    let mut v = [0i16; 8];
+    for i in 0usize..8 {
+        let z = lower(settle(r, errors[i], i == w));
+        v[i] = z;
+    }
+    v
+}
+
+// Whether each index is below r
+fn in_range(r: u32, k: &[u16; 8]) -> bool
+    ensures { λ b. ⌜ b ≡ below r (now (k .entry)) 8 ⌝ }
+{
+    let mut all = true;
+    for i in 0usize..8 {
+        if r <= wide(k[i]) {
+            all = false;
+        }
+    }
+    all
+}
+
+// Whether a rate is one of these calls' own
+fn owned(rate: u8) -> bool
+    ensures { λ b. ⌜ b ≡ owns rate ⌝ }
+{
+    if rate < 2 {
+        return false;
+    }
+    rate <= 9
+}
+
+// A refused point call
+pub fn no_point() -> Point
+    ensures { λ p. ⌜ p ≡ noPoint ⌝ }
+{
+    Point {
+        reply: OUT_OF_RANGE,
+        at: [0, 0, 0, 0, 0, 0, 0, 0],
+    }
+}
+
+// A refused index call
+fn no_index() -> Index
+    ensures { λ a. ⌜ a ≡ noIndex ⌝ }
+{
+    Index {
+        reply: OUT_OF_RANGE,
+        at: [0, 0, 0, 0, 0, 0, 0, 0],
+    }
+}
+
+// The point that an index names: 0 and the point; 8 for a rate outside 2 to 9 or an index of 2 to the rate or more.
+pub fn lattice_point(rate: u8, index: &[u16; 8]) -> Point
+    ensures { λ p. ⌜ p ≡ pointOf rate (now (index .entry)) ⌝ }
+{
+    if !owned(rate) {
+        return no_point();
+    }
+    if in_range(power(rate), index) {
+        let v = point_list(rate, index);
+        return Point { reply: DONE, at: v };
+    }
+    no_point()
+}
+
+// v2 + … + v8, each raised
+fn raised_rest(v: &[i16; 8]) -> u32
+    ensures { λ s. ⌜ Is (sumZ (λ (i : ℕ). getD (now (v .entry)) (suc i) (pos 0)) 7) s 229376 × (s < 458752) ⌝ }
+{
+    let mut sum: u32 = 0;
+    for i in 0usize..7 {
+        let z = v[i + 1];
+        sum += raise(z);
+    }
+    sum
+}
+
+// (v1 − v2 − … − v8) / 2 modulo r: 32768 is a multiple of r, and raises the difference above 0 by a multiple of 2 r
+fn back_first(r: u32, v: &[i16; 8]) -> u32
+    requires { ⌜ (4 ≤ r) × (r ≤ 512) × (32768 % r ≡ 0) ⌝ }
+    ensures { λ k. ⌜ (k ≡ backAt r (now (v .entry)) 0) × (k < 65536) ⌝ }
+{
+    let z = v[0];
+    (raise(z) + 458752 - raised_rest(v)) / 2 % r
+}
+
+// vi modulo r, at the other places
+fn back_other(r: u32, v: &[i16; 8], i: usize) -> u32
+    requires { ⌜ (4 ≤ r) × (r ≤ 512) × (32768 % r ≡ 0) × (0 < i) × (i < 8) ⌝ }
+    ensures { λ k. ⌜ (k ≡ backAt r (now (v .entry)) i) × (k < 65536) ⌝ }
+{
+    let z = v[i];
+    raise(z) % r
+}
+
+fn back_list(rate: u8, v: &[i16; 8]) -> [u16; 8]
+    requires { ⌜ (2 ≤ rate) × (rate ≤ 9) ⌝ }
+    ensures { λ k. ⌜ k ≡ back (2 ^ rate) (now (v .entry)) ⌝ }
+{
+    let r = power(rate);
+    let mut k = [0u16; 8];
+    k[0] = back_first(r, v) as u16;
+    for i in 1usize..8 {
+        k[i] = back_other(r, v, i) as u16;
+    }
+    k
+}
+
+// Whether two points are the same
+pub fn same(v: &[i16; 8], w: &[i16; 8]) -> bool
+    ensures { λ t. ⌜ t ≡ agree (now (v .entry)) (now (w .entry)) 8 ⌝ }
+{
+    let mut all = true;
+    for place in 0usize..8 {
+        let a = v[place];
+        let b = w[place];
+        if raise(a) != raise(b) {
+            all = false;
+        }
+    }
+    all
+}
+
+// The index that names a point: 0 and the index; 8 for a rate outside 2 to 9 or a point that no index of that rate names.
+pub fn lattice_index(rate: u8, point: &[i16; 8]) -> Index
+    ensures { λ a. ⌜ a ≡ indexOf rate (now (point .entry)) ⌝ }
+{
+    if !owned(rate) {
+        return no_index();
+    }
+    let k = back_list(rate, point);
+    let v = point_list(rate, &k);
+    if same(&v, point) {
+        return Index { reply: DONE, at: k };
+    }
+    no_index()
+}
