@@ -1,16 +1,14 @@
 -- The starred examples of the allotment, and examples of our own: computed from the definitions.
 -- Assumes nothing.
 use mathlib.Core.Path.{_≡_, refl}
-use mathlib.Core.Bool.{Bool, true, false}
-use mathlib.Core.List.{List, [], _∷_, _++_}
-use Prim.Native.Nat.{ℕ}
+use mathlib.Core.Bool.{true, false}
+use mathlib.Core.List.{[], _∷_, _++_}
 use lib.ListN.{replicate}
 use Rattle.ground.specs.Fills.{from}
 use Rattle.weights.specs.Table17.{table17, rowAt, has, seek, rowOf}
 use Rattle.weights.specs.Weights.{loudness, sumOver, spe, bspe, forward, backward, renormed, largest, smallest, mapped, louds, spes, rowWeights, spread, weightsOf, score, scoresOf, inRange}
 use Rattle.contest.specs.Bands.{lengthOf, competing}
 use Rattle.contest.specs.Rounds.{behind, leader, granted, dropped, first, ahead, round, contest, begin, played, rates}
-use Rattle.allotment.specs.declared.Shares.{Shares}
 use Rattle.allotment.specs.Allotment.{endOf, ratesOf, leftOf, sharesOf}
 
 -- ★ all indices 20, stationary, all compete: budgets 414 and 500

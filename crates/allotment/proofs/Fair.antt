@@ -1,16 +1,12 @@
 -- Demand 3 on the answer of the call: where it answers 0, its rates and its bits left are the contest's, which shares fairly.
 -- Assumes nothing.
-use mathlib.Core.Path.{_≡_, refl, sym, ap, _∙_, subst}
-use mathlib.Core.Bool.{Bool, true}
-use mathlib.Core.List.{List}
-use Prim.Native.Nat.{ℕ, _<_, _≤_}
+use mathlib.Core.Path.{sym, ap, subst}
 use Rattle.ground.specs.Sums.{nth}
-use Rattle.weights.specs.Weights.{nthZ, scoresOf, inRange}
+use Rattle.weights.specs.Weights.{nthZ, scoresOf}
 use Rattle.weights.proofs.Laws.{range-yes}
 use Rattle.contest.specs.Bands.{lengthOf, competing}
 use Rattle.contest.specs.Fairness.{Fair}
 use Rattle.allotment.specs.declared.Shares.{Shares}
-use Rattle.allotment.specs.Allotment.{sharesOf}
 use Rattle.allotment.specs.Demand3.{Demand3}
 use Rattle.allotment.proofs.Laws.{shares-yes, fair}
 

@@ -1,25 +1,23 @@
 -- The laws of the rates that callers use, and the code's answer put together. All come from the contest's.
 -- Assumes nothing.
-use mathlib.Core.Path.{_≡_, refl, sym, ap, _∙_}
-use mathlib.Core.Bool.{Bool, true, false, cond, _&&_, and-false}
+use mathlib.Core.Path.{_≡_, sym, ap, _∙_}
+use mathlib.Core.Bool.{Bool, true, false, and-false}
 use mathlib.Core.List.{List}
 use Prim.Native.Nat.{ℕ, _+_, _-_, _*_, _≤_, _<_}
 use native.Mathlib.Omega.{arith}
 use borrow.Author.Tests.{le-leb, lt-leb}
-use lib.Dec.{leb}
-use lib.IntN.{ℤ, pos}
+use lib.IntN.{pos}
 use lib.ListN.{length, replicate}
 use Rattle.ground.specs.Fills.{table, getD-table, length-from, filled}
 use Rattle.ground.specs.Replies.{done, outOfRange}
 use Rattle.ground.specs.Sums.{nth, sumTo}
-use Rattle.ground.specs.Whole.{Is}
 use Rattle.weights.specs.Weights.{nthZ, score, weightsOf, scoresOf, inRange}
 use Rattle.weights.proofs.Bridge.{score-is}
 use Rattle.weights.proofs.Laws.{range-at}
 use Rattle.contest.specs.Bands.{lengthOf, competing}
 use Rattle.contest.specs.Fairness.{Fair}
 use Rattle.contest.specs.Raised.{Heights}
-use Rattle.contest.specs.Rounds.{Game, at, played, rates}
+use Rattle.contest.specs.Rounds.{at, played, rates}
 use Rattle.contest.proofs.Promise.{rate-is, left-is, shared}
 use Rattle.levels.specs.declared.Ends.{Ends}
 use Rattle.levels.specs.Levels.{Room, settled}

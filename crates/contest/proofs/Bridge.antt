@@ -3,22 +3,22 @@
 use mathlib.Core.Path.{_≡_, refl, sym, ap, _∙_}
 use mathlib.Core.Bool.{Bool, true, false, cond, not, _&&_, _||_}
 use mathlib.Core.List.{List, [], _∷_, map}
-use Prim.Native.Nat.{ℕ, zero, suc, _+_, _-_, _*_, _≤_, _<_}
+use Prim.Native.Nat.{ℕ, zero, suc, _+_, _-_}
 use native.Mathlib.Omega.{arith}
 use borrow.Author.Tests.{lt-ltb, le-ltb, ltb-true, ltb-false}
 use lib.Dec.{leb, ltb}
-use lib.IntN.{ℤ, pos, subℕ, _-ℤ_}
+use lib.IntN.{ℤ, subℕ}
 use lib.ListN.{set, List·getD-map}
 use lib.Signed.{ltZ}
 use Rattle.ground.specs.Cases.{by-bool}
-use Rattle.ground.specs.Fills.{table, from, table-same}
+use Rattle.ground.specs.Fills.{from, table-same}
 use Rattle.ground.specs.Order.{is-lt}
-use Rattle.ground.specs.Whole.{Is, is-pos, is-unique, is-same, is-sub, is-subℕ}
+use Rattle.ground.specs.Whole.{is-pos, is-unique, is-same, is-sub, is-subℕ}
 use Rattle.contest.specs.Rounds as Z
 use Rattle.contest.specs.Rounds.{behind, leader, granted, dropped, first, ahead, round, contest, begin}
 use Rattle.contest.specs.Raised as R
 use Rattle.contest.specs.Raised.{Band, Game, at, nobody, Ready, Heights}
-use Rattle.contest.proofs.Laws.{Able, able-round, ready-ahead, round-served, round-refused, contest-on, contest-over}
+use Rattle.contest.proofs.Laws.{Able, able-round, ready-ahead, contest-on, contest-over}
 
 pub lower : Band → Z.Band
 lower b = record { size = b .size; score = subℕ (b .score) 368; rate = b .rate; competes = b .competes }
@@ -153,3 +153,7 @@ begin-same size score competes budget height h =
 pub rate-same : (g : Game) (p : ℕ) → Z.at (lowered g .bands) p .rate ≡ at (g .bands) p .rate
 unfolding lowered lower
 rate-same g p = ap (λ (b : Z.Band). b .rate) (lower-at (g .bands) p)
+
+pub competes-same : (g : Game) (p : ℕ) → Z.at (lowered g .bands) p .competes ≡ at (g .bands) p .competes
+unfolding lowered lower
+competes-same g p = ap (λ (b : Z.Band). b .competes) (lower-at (g .bands) p)

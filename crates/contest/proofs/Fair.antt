@@ -2,18 +2,17 @@
 -- that competes and ends below nine is less than its length and what was spent already. Assumes nothing.
 use mathlib.Core.Path.{_≡_, refl, sym, ap, _∙_}
 use mathlib.Core.Bool.{Bool, true, false, cond, false≢true}
-use mathlib.Core.List.{List, [], _∷_}
 use Prim.Native.Nat.{ℕ, zero, suc, _+_, _-_, _*_, _≤_, _<_}
 use native.Mathlib.Nat.{le-refl, le-trans, mul-add}
 use native.Mathlib.Numerals.{add-one}
 use native.Mathlib.Omega.{arith}
-use borrow.Author.Tests.{lt-ltb, le-ltb, ltb-true, ltb-false, leb-false}
-use lib.Dec.{leb, ltb}
+use borrow.Author.Tests.{le-ltb, ltb-false, leb-false}
+use lib.Dec.{ltb}
 use lib.ListN.{length}
 use Rattle.ground.specs.Cases.{by-bool}
-use Rattle.contest.specs.Raised.{Band, Game, key, at, granted, dropped, first, ahead, fits, round, contest, Ready, sumOf, countBelow, spent}
-use Rattle.contest.proofs.Laws.{Able, able-round, ready-ahead, contest-on, contest-over, holds, kept, by-part, at-first, at-served, at-refused, at-other, round-refused, served-left, sum-served, sum-refused, length-round, stays, top, key-in, no-one}
-use Rattle.contest.proofs.Ends.{pot, pot-round, pot-start, ends}
+use Rattle.contest.specs.Raised.{Band, Game, at, granted, dropped, first, ahead, fits, round, contest, Ready, sumOf, countBelow, spent}
+use Rattle.contest.proofs.Laws.{Able, able-round, ready-ahead, contest-on, holds, by-part, at-first, round-refused, served-left, sum-served, sum-refused, stays, top, key-in, no-one}
+use Rattle.contest.proofs.Ends.{pot, pot-round, ends}
 
 -- ---- what never changes: a band's length, and its score with 32 for each step
 size-granted : (b : Band) → granted b .size ≡ b .size

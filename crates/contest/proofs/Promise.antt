@@ -1,16 +1,14 @@
 -- Demand 3: the contest shares fairly, from any lengths, any scores of −80 or more, any choice of who competes and any budget; and it ends.
 -- The raised contest's laws, read on its end. Assumes nothing.
 use mathlib.Core.Path.{_≡_, refl, sym, ap, _∙_, subst⁻¹}
-use mathlib.Core.Bool.{Bool, true, false, cond, false≢true}
+use mathlib.Core.Bool.{Bool, true, false, false≢true}
 use mathlib.Core.List.{List, [], _∷_}
 use Prim.Native.Nat.{ℕ, zero, suc, _+_, _-_, _*_, _≤_, _<_}
 use native.Mathlib.Decide.{decLt}
 use native.Mathlib.Nat.{mul-zero, zero-mul}
 use native.Mathlib.Omega.{arith}
-use lib.Dec.{ltb}
 use lib.IntN.{ℤ, pos, _-ℤ_}
 use lib.ListN.{length, List·getD-eq-default}
-use lib.Signed.{ltZ}
 use Rattle.ground.specs.Fills.{table, getD-table, length-from}
 use Rattle.ground.specs.Order.{is-lt}
 use Rattle.ground.specs.Sums.{nth, sumTo, sum-same, sum-none, sum-front}
@@ -18,11 +16,11 @@ use Rattle.ground.specs.Whole.{Is, is-pos, is-same, is-sub}
 use Rattle.contest.specs.Rounds as Z
 use Rattle.contest.specs.Rounds.{played, rates}
 use Rattle.contest.specs.Fairness.{stepsBelow, Fair}
-use Rattle.contest.specs.Raised.{Band, Game, at, nobody, contest, fresh, begin, Heights, Ready, Readys, sumOf, countBelow, spent}
+use Rattle.contest.specs.Raised.{Band, Game, at, nobody, contest, fresh, begin, Heights, Readys, sumOf, countBelow, spent}
 use Rattle.contest.proofs.Laws.{Able, able-end, stays}
 use Rattle.contest.proofs.Ends.{pot-start, over}
 use Rattle.contest.proofs.Fair.{size-end, start-end, nine-end, bits, given, adds-up, paid, fair}
-use Rattle.contest.proofs.Bridge.{lowered, contest-same, begin-same, rate-same, left-same}
+use Rattle.contest.proofs.Bridge.{lowered, contest-same, begin-same, rate-same, competes-same, left-same}
 
 sum-list : (f : Band → ℕ) (l : List Band) → sumOf f l ≡ sumTo (λ p. f (at l p)) (length l)
 unfolding sumOf sumTo
@@ -112,10 +110,12 @@ module _ (size : ℕ → ℕ) (score : ℕ → ℤ) (competes : ℕ → Bool) (b
   pub left-is : played size score competes budget .left ≡ contest 396 (begin size height competes budget) .left
   left-is = ap (λ (g : Z.Game). g .left) played-is ∙ left-same (contest 396 (begin size height competes budget))
 
-  -- after 396 rounds none competes
-  pub ended : (p : ℕ) → p < 44 → at (contest 396 (begin size height competes budget) .bands) p .competes ≡ false
+  -- at the end none competes
+  pub ended : (p : ℕ) → p < 44 → Z.at (played size score competes budget .bands) p .competes ≡ false
   unfolding start
-  ended p h = over (begin size height competes budget) able p (omega arith)
+  ended p h =
+      ap (λ (g : Z.Game). Z.at (g .bands) p .competes) played-is ∙ competes-same (contest 396 (begin size height competes budget)) p
+      ∙ over (begin size height competes budget) able p (omega arith)
 
   module _ (p : ℕ) (h : p < 44) where
     begun : at (start .bands) p ≡ fresh size height competes p

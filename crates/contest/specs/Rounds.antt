@@ -65,7 +65,7 @@ contest (suc n) g = elim (ahead g .competes) [ true ↦ contest n (round g) | fa
 unfoldable pub begin : (ℕ → ℕ) → (ℕ → ℤ) → (ℕ → Bool) → ℕ → Game
 begin size score competes budget = record { bands = table 44 (λ p. record { size = size p; score = score p; rate = 0; competes = competes p }); left = budget }
 
--- the contest to its end: each of 44 bands takes at most nine rounds, so 396 are enough (proofs/Promise, over)
+-- the contest to its end: each of 44 bands takes at most nine rounds, so 396 are enough (proofs/Promise, ended)
 unfoldable pub played : (ℕ → ℕ) → (ℕ → ℤ) → (ℕ → Bool) → ℕ → Game
 played size score competes budget = contest 396 (begin size score competes budget)
 

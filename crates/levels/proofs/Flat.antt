@@ -2,7 +2,7 @@
 -- Assumes nothing.
 use mathlib.Core.Bool.{Bool, cond, false, true}
 use mathlib.Core.List.{List}
-use mathlib.Core.Path.{_≡_, refl, sym, ap, _∙_}
+use mathlib.Core.Path.{_≡_, refl, ap, _∙_}
 use Prim.Native.Nat.{zero, suc, _%_, _*_, _+_, _-_, _<_, _≤_, ℕ}
 use native.Mathlib.Nat.{mul-le-mul, zero-mul, not-suc-le-zero}
 use native.Mathlib.Numerals.{add-one}

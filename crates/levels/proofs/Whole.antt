@@ -1,21 +1,19 @@
 -- From the raised scores to the contest's end: what the calls promise, put together.
 -- Assumes nothing.
-use mathlib.Core.Path.{_≡_, refl, sym, ap, _∙_, subst}
-use mathlib.Core.Bool.{Bool, true, false, cond, _||_}
+use mathlib.Core.Path.{_≡_, sym, ap, _∙_}
+use mathlib.Core.Bool.{Bool, true, false, cond}
 use mathlib.Core.List.{List}
 use Prim.Native.Nat.{ℕ, _%_, _+_, _-_, _*_, _≤_, _<_}
 use native.Mathlib.Omega.{arith}
 use lib.Dec.{ltb}
-use lib.ListN.{length}
-use Rattle.ground.specs.Cases.{by-bool}
-use Rattle.ground.specs.Fills.{table, getD-table, length-from, filled}
+use Rattle.ground.specs.Fills.{table, getD-table, filled}
 use Rattle.ground.specs.Sums.{nth}
 use Rattle.contest.specs.Bands.{lengthOf, competing}
 use Rattle.contest.specs.Raised.{Band, Game, at, contest, begin, fresh}
-use Rattle.contest.proofs.Promise.{start-at, start-left, able-start}
+use Rattle.contest.proofs.Promise.{start-at, able-start}
 use Rattle.levels.specs.declared.Ends.{Ends}
 use Rattle.levels.specs.Offers.{spot, state, Flat}
-use Rattle.levels.specs.Levels.{climb, bill, bidAt, Finished, Keyed, keyOf, keysOf, Room, endOf, settled}
+use Rattle.levels.specs.Levels.{climb, bill, Finished, Keyed, keyOf, keysOf, Room, endOf, settled}
 use Rattle.levels.proofs.Finish.{thinned, thinned-at, thinned-left, kept-rate}
 use Rattle.levels.proofs.State.{state-at, state-left, state-end, state-jump, stepped-rate}
 

@@ -1,26 +1,25 @@
 -- The code's raised naturals are the paper's whole numbers: stage by stage each is its whole number plus 3,600, or, from (27) on, 3,600 less it.
 -- Also that the divisions by H_b leave no rest. Assumes nothing.
 use mathlib.Core.Path.{_≡_, refl, sym, ap, _∙_, subst, subst⁻¹}
-use mathlib.Core.Bool.{Bool, true, false, cond, _&&_}
+use mathlib.Core.Bool.{Bool, true, false, _&&_}
 use mathlib.Core.List.{List, [], _∷_}
 use Prim.Native.Nat.{ℕ, zero, suc, _+_, _-_, _*_, _/_, _≤_, _<_, max, min}
-use native.Mathlib.Nat.{mul-comm, mul-assoc, mul-left-comm, mul-div-cancel-left, add-suc, add-zero, mul-add}
+use native.Mathlib.Nat.{mul-comm, mul-assoc, mul-div-cancel-left, add-zero}
 use native.Mathlib.Omega.{arith}
 use borrow.Author.Tests.{lt-ltb, ltb-true, ltb-false, le-ltb}
 use lib.Dec.{T, ltb, leb, eqb, eqb→eq, leb→le}
-use lib.IntN.{ℤ, pos, negsuc, natAbs, _+ℤ_, _-ℤ_, _*ℤ_}
-use lib.ListN.{length, getD}
+use lib.IntN.{ℤ, pos, negsuc, natAbs, _-ℤ_, _*ℤ_}
 use lib.Signed.{ltZ, shrZ}
 use Rattle.ground.specs.Cases.{by-bool, and-T}
-use Rattle.ground.specs.Fills.{table, from, getD-table, table-same}
+use Rattle.ground.specs.Fills.{table, getD-table, table-same}
 use Rattle.ground.specs.Order.{maxZ, minZ, is-lt, is-max, is-min, is-scale, is-div}
 use Rattle.ground.specs.Sums.{nth, sumTo, sum-nil, sum-front}
-use Rattle.ground.specs.Tables.{every, every-at}
+use Rattle.ground.specs.Tables.{every-at}
 use Rattle.ground.specs.Whole.{Is, is-pos, is-unique, is-same, is-add, is-sub}
 use Rattle.weights.specs.Table17.{table17, rowAt, bandsOf, heightOf, liftOf, floorOf}
 use Rattle.weights.specs.Raised.{loud, quarter, quarters, row, up, down, excess, most, least, scaled, raisedRows}
-use Rattle.weights.specs.Weights.{nthZ, loudness, louds, sumOver, four, spe, spes, score, bspe, forward, backward, renormed, largest, smallest, mapped, rowWeights}
-use Rattle.weights.proofs.Columns.{firsts, first-is, first-in, part-is, part-times}
+use Rattle.weights.specs.Weights.{nthZ, loudness, louds, sumOver, spe, spes, score, bspe, forward, backward, renormed, largest, smallest, mapped, rowWeights}
+use Rattle.weights.proofs.Printed.{firsts, first-is, first-in, part-is, part-times}
 use Rattle.weights.proofs.Laws.{most-ge}
 
 -- the same place of two tables

@@ -1,10 +1,9 @@
 -- The starred example of the weights, and examples of our own: computed from the definition.
 -- Assumes nothing.
 use mathlib.Core.Path.{_≡_, refl}
-use mathlib.Core.Bool.{Bool, true, false}
-use mathlib.Core.List.{List, [], _∷_, _++_}
-use Prim.Native.Nat.{ℕ}
-use lib.IntN.{ℤ, pos, negsuc}
+use mathlib.Core.Bool.{true, false}
+use mathlib.Core.List.{[], _∷_, _++_}
+use lib.IntN.{pos, negsuc}
 use lib.ListN.{replicate}
 use Rattle.ground.specs.Fills.{from}
 use Rattle.weights.specs.Table17.{table17, rowAt, has, seek, rowOf}

@@ -1,4 +1,4 @@
-pub mod Columns
+pub mod Printed
 pub mod Laws
 pub mod Bridge
 pub mod Examples

@@ -5,7 +5,7 @@ use Prim.Native.Nat.{ℕ, zero, suc, _+_, _-_, _*_, _/_, max, min}
 use lib.Dec.{ltb}
 use Rattle.ground.specs.Fills.{table}
 use Rattle.ground.specs.Sums.{nth, sumTo}
-use Rattle.weights.specs.Table17.{bandsOf, heightOf, liftOf, floorOf, rowOf}
+use Rattle.weights.specs.Table17.{bandsOf, heightOf, liftOf, floorOf}
 
 -- the raised loudness of band p
 unfoldable pub loud : List ℕ → ℕ → ℕ

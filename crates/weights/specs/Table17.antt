@@ -1,7 +1,7 @@
 -- Table 17 of 001 as printed: for each row b the bands J_b, then H_b, T_b and A(b).
 use mathlib.Core.Bool.{Bool, true, false, cond}
 use mathlib.Core.List.{List, [], _∷_}
-use Prim.Native.Nat.{ℕ, zero, suc}
+use Prim.Native.Nat.{ℕ, suc}
 use lib.Dec.{eqb}
 use lib.ListN.{getD}
 

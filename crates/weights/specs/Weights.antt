@@ -1,5 +1,5 @@
 -- The weights and the starting scores of 7.5.1, in whole numbers of 1/720 (01, Weights). Wherever 7.5 prints the index, loudness is meant.
-use mathlib.Core.Bool.{Bool, true, false, cond, _&&_}
+use mathlib.Core.Bool.{Bool, true, cond, _&&_}
 use mathlib.Core.List.{List, [], _∷_}
 use Prim.Native.Nat.{ℕ, zero, suc, _+_, _-_, _*_, _/_}
 use lib.Dec.{leb}

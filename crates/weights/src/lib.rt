@@ -1,4 +1,12 @@
 // The weights and starting scores of 7.5.1. The code counts in naturals: loudness raised by 5, every 720th by 3,600.
+mod columns;
+
+use crate::columns::FIRSTS;
+use crate::columns::FLOORS;
+use crate::columns::HEIGHTS;
+use crate::columns::LIFTS;
+use crate::columns::PARTS;
+use crate::columns::PLACES;
 use ground::replies::DONE;
 use ground::replies::OUT_OF_RANGE;
 ghost use lib.ListN.{length};
@@ -73,101 +81,6 @@ fn quarters(transient: bool, norms: &[u8; 44]) -> [u8; 44]
     }
     out
 }
-
-// Table 17 by columns: the first band of J_b, H_b, 180 / H_b, 720 T_b, 720 (A(b) + 5).
-const FIRSTS: [usize; 20] = [
-    0,
-    1,
-    2,
-    3,
-    4,
-    5,
-    6,
-    7,
-    8,
-    9,
-    10,
-    12,
-    14,
-    16,
-    18,
-    20,
-    24,
-    27,
-    30,
-    35,
-];
-
-const HEIGHTS: [usize; 20] = [1, 1, 1, 1, 1, 1, 1, 1, 1, 1, 2, 2, 2, 2, 2, 4, 3, 3, 5, 9];
-
-const PARTS: [u16; 20] = [
-    180,
-    180,
-    180,
-    180,
-    180,
-    180,
-    180,
-    180,
-    180,
-    180,
-    90,
-    90,
-    90,
-    90,
-    90,
-    45,
-    60,
-    60,
-    36,
-    20,
-];
-
-const LIFTS: [u16; 20] = [
-    2160,
-    2160,
-    2160,
-    2160,
-    2160,
-    2160,
-    2160,
-    2160,
-    2160,
-    2160,
-    2880,
-    2880,
-    2880,
-    3600,
-    3600,
-    4320,
-    4320,
-    4320,
-    5040,
-    5760,
-];
-
-const FLOORS: [u16; 20] = [
-    9360,
-    7920,
-    5760,
-    5760,
-    5760,
-    5760,
-    5760,
-    5760,
-    5760,
-    5760,
-    5760,
-    5760,
-    5760,
-    5760,
-    5760,
-    5760,
-    6480,
-    7200,
-    8640,
-    11520,
-];
 
 fn sum_of(qs: &[u8; 44], p: usize, n: usize) -> u16
     requires { ⌜ (p + n ≤ 44) × ((k : ℕ) → nth (now qs) k ≤ 156) ⌝ }
@@ -305,54 +218,6 @@ fn row_weights(transient: bool, norms: &[u8; 44]) -> [u8; 20]
     let ds = excesses(&b26);
     scales(&ds)
 }
-
-// The row of each band in Table 17.
-const PLACES: [u8; 44] = [
-    0,
-    1,
-    2,
-    3,
-    4,
-    5,
-    6,
-    7,
-    8,
-    9,
-    10,
-    10,
-    11,
-    11,
-    12,
-    12,
-    13,
-    13,
-    14,
-    14,
-    15,
-    15,
-    15,
-    15,
-    16,
-    16,
-    16,
-    17,
-    17,
-    17,
-    18,
-    18,
-    18,
-    18,
-    18,
-    19,
-    19,
-    19,
-    19,
-    19,
-    19,
-    19,
-    19,
-    19,
-];
 
 // (29)
 fn laid(rows: &[u8; 20]) -> [u8; 44]

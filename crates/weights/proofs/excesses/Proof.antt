@@ -6,7 +6,7 @@ use lib.ListN.{getD, length, length-set}
 use mathlib.Core.Path.{_≡_, refl}
 use native.Mathlib.Omega.{arith}
 use Rattle.ground.specs.Fills.{fill, filled}
-use Rattle.weights.proofs.Columns.{floor-is, lift-is}
+use Rattle.weights.proofs.Printed.{floor-is, lift-is}
 use Rattle.weights.proofs.Laws.{excess-made}
 use Rattle.weights.specs.Raised.{excess}
 use Rattle.weights.proofs.excesses.Statement.{statement}

@@ -7,7 +7,7 @@ use mathlib.Core.Path.{_≡_, ap, refl}
 use native.Mathlib.Omega.{arith}
 use Rattle.ground.specs.Fills.{bound, everywhere, fill, filled}
 use Rattle.ground.specs.Sums.{nth}
-use Rattle.weights.proofs.Columns.{row-in, row-is}
+use Rattle.weights.proofs.Printed.{row-in, row-is}
 use Rattle.weights.specs.Table17.{rowOf}
 use Rattle.weights.proofs.laid.Statement.{statement}
 use Rattle.weights.proofs.laid.Tie as tie

@@ -6,7 +6,7 @@ use lib.ListN.{getD, length, length-set}
 use mathlib.Core.Path.{_≡_, refl}
 use native.Mathlib.Omega.{arith}
 use Rattle.ground.specs.Fills.{fill, filled}
-use Rattle.weights.proofs.Columns.{first-is, first-room, height-is, lift-is, lift-le, part-all, part-is}
+use Rattle.weights.proofs.Printed.{first-is, first-room, height-is, lift-is, lift-le, part-all, part-is}
 use Rattle.weights.proofs.Laws.{part-le, row-made}
 use Rattle.weights.specs.Raised.{row}
 use Rattle.weights.proofs.rows.Statement.{statement}
