@@ -5,3 +5,4 @@ pub mod Part
 pub mod Loops
 pub mod Answers
 pub mod Reads
+pub mod Stars
