@@ -62,7 +62,7 @@ near-at x (y ∷ ys) n (suc i) h = near-at y ys (n .3) i (le-of-suc-le-suc h)
 
 -- ---- the two passes by place
 
-fallen-step : (ss : List ℕ) (i : ℕ) → i < 43 → fallen ss (43 - i) ≡ min (getD ss i 0) (fallen ss (43 - suc i) + 15)
+pub fallen-step : (ss : List ℕ) (i : ℕ) → i < 43 → fallen ss (43 - i) ≡ min (getD ss i 0) (fallen ss (43 - suc i) + 15)
 unfolding fallen
 fallen-step ss i h =
     let e : 43 - i ≡ suc (42 - i) = omega arith in
@@ -81,21 +81,21 @@ fallen-le ss i h =
       | no e ↦ omega (arith, fallen-step ss i (omega (arith, e)))
     ]
 
-risen-step : (ss : List ℕ) (i : ℕ) → risen ss (suc i) ≡ min (getD ss (suc i) 0) (risen ss i + 16)
+pub risen-step : (ss : List ℕ) (i : ℕ) → risen ss (suc i) ≡ min (getD ss (suc i) 0) (risen ss i + 16)
 unfolding risen
 risen-step ss i = refl
 
-risen-first : (ss : List ℕ) → risen ss 0 ≡ getD ss 0 0
+pub risen-first : (ss : List ℕ) → risen ss 0 ≡ getD ss 0 0
 unfolding risen
 risen-first ss = refl
 
-risen-le : (ss : List ℕ) (i : ℕ) → risen ss i ≤ getD ss i 0
+pub risen-le : (ss : List ℕ) (i : ℕ) → risen ss i ≤ getD ss i 0
 risen-le ss zero = omega (arith, risen-first ss)
 risen-le ss (suc i) = omega (arith, risen-step ss i)
 
 -- ---- the first index
 
-capped-first : (ss : List ℕ) → 0 < length ss → getD (capped ss) 0 0 ≡ min (getD ss 0 0) 31
+pub capped-first : (ss : List ℕ) → 0 < length ss → getD (capped ss) 0 0 ≡ min (getD ss 0 0) 31
 unfolding capped
 capped-first ss h = getD-set-same ss 0 (min (getD ss 0 0) 31) 0 h
 

@@ -5,3 +5,5 @@ pub mod Part
 pub mod Loops
 pub mod Answers
 pub mod Reads
+pub mod Greatest
+pub mod Stars

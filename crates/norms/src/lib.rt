@@ -214,8 +214,8 @@ pub fn norm_bits(transient: bool, flag_n: bool, norms: [u8; 44]) -> usize
     ensures { λ r. ⌜ r ≡ length (normBits transient «flag_n» norms) ⌝ }
 {
     let kinds = norm_kinds(flag_n);
-    let ws = numbers_of(sent_order(transient, norms));
-    words::runs::run_bits(&kinds, &ws)
+    let numbers = numbers_of(sent_order(transient, norms));
+    words::runs::run_bits(&kinds, &numbers)
 }
 
 // Whether each difference of indices in sent order is -15 to 16.
