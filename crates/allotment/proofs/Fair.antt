@@ -3,7 +3,7 @@
 use mathlib.Core.Path.{sym, ap, subst}
 use Rattle.ground.specs.Sums.{nth}
 use Rattle.weights.specs.Weights.{nthZ, scoresOf}
-use Rattle.weights.proofs.Laws.{range-yes}
+use Rattle.ground.specs.Indices.{range-yes}
 use Rattle.contest.specs.Bands.{lengthOf, competing}
 use Rattle.contest.specs.Fairness.{Fair}
 use Rattle.allotment.specs.declared.Shares.{Shares}

@@ -11,9 +11,10 @@ use lib.ListN.{length, replicate}
 use Rattle.ground.specs.Fills.{table, getD-table, length-from, filled}
 use Rattle.ground.specs.Replies.{done, outOfRange}
 use Rattle.ground.specs.Sums.{nth, sumTo}
-use Rattle.weights.specs.Weights.{nthZ, score, weightsOf, scoresOf, inRange}
+use Rattle.weights.specs.Weights.{nthZ, score, weightsOf, scoresOf}
+use Rattle.ground.specs.Indices.{inRange}
 use Rattle.weights.proofs.Bridge.{score-is}
-use Rattle.weights.proofs.Laws.{range-at}
+use Rattle.ground.specs.Indices.{range-at}
 use Rattle.contest.specs.Bands.{lengthOf, competing}
 use Rattle.contest.specs.Fairness.{Fair}
 use Rattle.contest.specs.Raised.{Heights}

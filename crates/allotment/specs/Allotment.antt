@@ -5,7 +5,8 @@ use Prim.Native.Nat.{ℕ}
 use lib.Dec.{leb}
 use lib.ListN.{replicate}
 use Rattle.ground.specs.Replies.{done, outOfRange}
-use Rattle.weights.specs.Weights.{nthZ, scoresOf, inRange}
+use Rattle.weights.specs.Weights.{nthZ, scoresOf}
+use Rattle.ground.specs.Indices.{inRange}
 use Rattle.contest.specs.Bands.{lengthOf, competing}
 use Rattle.contest.specs.Rounds.{Game, played, rates}
 use Rattle.allotment.specs.declared.Shares.{Shares}

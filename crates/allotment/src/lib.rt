@@ -6,7 +6,7 @@ ghost use mathlib.Core.Path.{_≡_};
 ghost use Prim.Native.Nat.{ℕ, _+_, _-_, _*_, _≤_, _<_};
 ghost use Rattle.ground.specs.Fills.{table};
 ghost use Rattle.ground.specs.Sums.{nth};
-ghost use Rattle.weights.specs.Weights.{inRange};
+ghost use Rattle.ground.specs.Indices.{inRange};
 ghost use Rattle.allotment.specs.Allotment.{sharesOf};
 
 #[repr(C)]
@@ -41,7 +41,7 @@ fn heights_of(norms: &[u8; 44], ws: &[u8; 44]) -> [u16; 44]
 pub fn allot(transient: bool, wide: bool, norms: [u8; 44], budget: u32) -> Shares
     ensures { λ r. ⌜ r ≡ sharesOf transient wide norms budget ⌝ }
 {
-    if weights::in_range(&norms) {
+    if ground::indices::in_range(&norms) {
         if budget <= 2560 {
             let ws = weights::weights_of(transient, &norms);
             let heights = heights_of(&norms, &ws);

@@ -18,7 +18,8 @@ use Rattle.ground.specs.Replies.{done, outOfRange}
 use Rattle.ground.specs.Sums.{nth, sumTo}
 use Rattle.weights.specs.Table17.{bandsOf, heightOf, liftOf, floorOf}
 use Rattle.weights.specs.Raised.{row, up, down, excess, most, least, scaled}
-use Rattle.weights.specs.Weights.{inRange, weightsOf, score, scoresOf, weighed}
+use Rattle.weights.specs.Weights.{weightsOf, score, scoresOf, weighed}
+use Rattle.ground.specs.Indices.{inRange}
 use Rattle.weights.specs.declared.Weights.{Weights}
 
 -- (25), (26)
@@ -83,32 +84,6 @@ module _ (hi lo d : ℕ) where
 
   pub scaled-le : lo < hi → lo ≤ d → d ≤ hi → 64 * (hi - d) / (hi - lo) ≤ 64
   scaled-le h k m = div-le-of-le-mul (hi - lo) (omega arith)
-
--- the test of the indices, both ways
-pub range-none : (norms : List ℕ) → inRange norms 0 ≡ true
-unfolding inRange
-range-none norms = refl
-
-pub range-yes : (norms : List ℕ) (n : ℕ) → ((k : ℕ) → k < n → nth norms k ≤ 39) → inRange norms n ≡ true
-unfolding inRange
-range-yes norms zero h = refl
-range-yes norms (suc n) h = rw (le-leb (nth norms n) 39 (h n (omega arith))) (range-yes norms n (λ k b. h k (omega arith)))
-
-pub range-no : (norms : List ℕ) (n k : ℕ) → k < n → 39 < nth norms k → inRange norms n ≡ false
-unfolding inRange
-range-no norms zero k h m = absurd (not-suc-le-zero h)
-range-no norms (suc n) k h m =
-    elim (ℕ-discrete k n) [
-      | yes e ↦ (let m′ : 39 < nth norms n = rw (← e) m in rw (lt-leb (nth norms n) 39 m′))
-      | no e ↦ rw (range-no norms n k (omega (arith, e)) m) (and-false (leb (nth norms n) 39))
-    ]
-
-pub range-at : (norms : List ℕ) (n : ℕ) → inRange norms n ≡ true → (k : ℕ) → k < n → nth norms k ≤ 39
-unfolding inRange
-range-at norms zero t k h = absurd (not-suc-le-zero h)
-range-at norms (suc n) t k h =
-    let a = and-true (leb (nth norms n) 39) (inRange norms n) t in
-    elim (ℕ-discrete k n) [ yes e ↦ rw e (leb-true _ _ (a .0)) | no e ↦ range-at norms n (a .1) k (omega (arith, e)) ]
 
 -- the answer, by the test
 module _ (transient : Bool) (norms : List ℕ) where

@@ -7,6 +7,7 @@ use lib.IntN.{ℤ, pos, natAbs, _+ℤ_, _-ℤ_, _*ℤ_}
 use lib.ListN.{getD, replicate}
 use lib.Signed.{ltZ, shrZ}
 use Rattle.ground.specs.Fills.{table}
+use Rattle.ground.specs.Indices.{inRange}
 use Rattle.ground.specs.Order.{maxZ, minZ}
 use Rattle.ground.specs.Replies.{done, outOfRange}
 use Rattle.ground.specs.Sums.{nth}
@@ -99,11 +100,6 @@ score index w = pos 16 *ℤ loudness index +ℤ pos w
 
 unfoldable pub scoresOf : Bool → List ℕ → List ℤ
 scoresOf transient norms = let ws = weightsOf transient norms in table 44 (λ p. score (nth norms p) (nth ws p))
-
--- the first n indices are at most 39
-unfoldable pub inRange : List ℕ → ℕ → Bool
-inRange norms zero = true
-inRange norms (suc n) = leb (nth norms n) 39 && inRange norms n
 
 -- what the call answers: weights and scores, or 8 and zeros for an index over 39
 unfoldable pub weighed : Bool → List ℕ → Weights

@@ -18,7 +18,8 @@ ghost use Rattle.ground.specs.Sums.{nth, sumTo};
 ghost use Rattle.ground.specs.Whole.{Is};
 ghost use Rattle.weights.specs.Table17.{bandsOf, heightOf, liftOf, floorOf, rowOf};
 ghost use Rattle.weights.specs.Raised.{loud, quarter, row, up, down, excess, most, least, scaled, raisedRows};
-ghost use Rattle.weights.specs.Weights.{rowWeights, spread, weightsOf, score, scoresOf, inRange, weighed};
+ghost use Rattle.weights.specs.Weights.{rowWeights, spread, weightsOf, score, scoresOf, weighed};
+ghost use Rattle.ground.specs.Indices.{inRange};
 
 #[repr(C)]
 pub struct Weights {
@@ -271,20 +272,6 @@ pub fn weights_of(transient: bool, norms: &[u8; 44]) -> [u8; 44]
     spreads(transient, &ws)
 }
 
-// Whether each of the 44 indices is at most 39.
-pub fn in_range(norms: &[u8; 44]) -> bool
-    ensures { λ r. ⌜ r ≡ inRange (now (norms .entry)) 44 ⌝ }
-{
-    let mut i = 0;
-    while i < 44 {
-        if 39 < norms[i] {
-            return false;
-        }
-        i += 1;
-    }
-    true
-}
-
 // A score raised by 368, as the paper's number.
 fn lowered(height: u16) -> i16
     requires { ⌜ height ≤ 976 ⌝ }
@@ -319,7 +306,7 @@ fn scores_of(norms: &[u8; 44], ws: &[u8; 44]) -> [i16; 44]
 pub fn weigh(transient: bool, norms: [u8; 44]) -> Weights
     ensures { λ r. ⌜ r ≡ weighed transient norms ⌝ }
 {
-    if in_range(&norms) {
+    if ground::indices::in_range(&norms) {
         let weights = weights_of(transient, &norms);
         let scores = scores_of(&norms, &weights);
         return Weights {

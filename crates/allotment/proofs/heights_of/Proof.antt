@@ -7,7 +7,7 @@ use mathlib.Core.Path.{_≡_, refl}
 use native.Mathlib.Omega.{arith}
 use Rattle.ground.specs.Fills.{fill, filled}
 use Rattle.ground.specs.Sums.{nth}
-use Rattle.weights.proofs.Laws.{range-at}
+use Rattle.ground.specs.Indices.{range-at}
 use Rattle.allotment.proofs.heights_of.Statement.{statement}
 use Rattle.allotment.proofs.heights_of.Tie as tie
 

@@ -10,7 +10,7 @@ use mir.Syntax.{w16}
 use native.Mathlib.Omega.{arith}
 use Rattle.ground.specs.Fills.{fill, filled}
 use Rattle.ground.specs.Sums.{nth}
-use Rattle.weights.proofs.Laws.{range-at}
+use Rattle.ground.specs.Indices.{range-at}
 use Rattle.weights.specs.Weights.{score}
 use Rattle.weights.proofs.scores_of.Statement.{statement}
 use Rattle.weights.proofs.scores_of.Tie as tie

@@ -3,7 +3,7 @@
 use borrow.Author.Needs.{needs}
 use mathlib.Core.Path.{refl}
 use Rattle.weights.proofs.Bridge.{rows-same}
-use Rattle.weights.proofs.Laws.{range-at}
+use Rattle.ground.specs.Indices.{range-at}
 use Rattle.weights.specs.Weights.{weightsOf}
 use Rattle.weights.proofs.weights_of.Statement.{statement}
 use Rattle.weights.proofs.weights_of.Tie as tie
