@@ -8,13 +8,13 @@ use Prim.Native.Nat.{ℕ, zero, suc, _+_, _-_, _*_, _/_, _%_, _^_, _≤_, _<_}
 use native.Mathlib.Nat.{add-zero, zero-add, suc-add, add-suc, add-assoc, mod-eq-of-lt, mod-lt, div-mul-le-self, lt-of-lt-of-le, lt-of-le-of-lt}
 use native.Mathlib.Omega.{arith}
 use native.Mathlib.Decide.{ℕ-discrete, decLt}
-use lib.ListN.{length, getD, take, drop, set, length-append, length-set, length-take, List·getD-eq-default}
+use lib.ListN.{length, getD, take, drop, set, length-append, length-set, length-take, length-drop, List·getD-eq-default}
 use lib.Pow.{pow-pos, pow-mono, shl-exact}
-use lib.Seq.{sets, sets-eq, length-sets, set-getD, set-out, drop-at, take-at, getD-take, getD-drop, getD-set-same, getD-set-other}
+use lib.Seq.{drop-nil, drop-drop, sets, sets-eq, length-sets, set-getD, set-out, drop-at, take-at, getD-take, getD-drop, getD-set-same, getD-set-other}
 use Rattle.bits.specs.Bits.{word, val, bit, view, bitsOf, bytesOf, laid, Bytes}
 use Rattle.bits.specs.Numbers.{val-lt, val-append, val-front, val-back, val-word, word-val, word-mod, word-add, length-word, shifted-one}
 use Rattle.bits.specs.Views.{length-view, view-add, view-past, view-lt}
-use Rattle.bits.specs.Bytes.{length-bits, length-bytes, bytes-bits, bits-bytes, view-part}
+use Rattle.bits.specs.Bytes.{length-bits, length-bytes, bytes-bits, bits-bytes, view-part, same-bits}
 
 -- ---- stores one after the other, of any elements
 
@@ -145,6 +145,59 @@ view-laid s p w h =
 pub bit-after : (s : List ℕ) (p : ℕ) (w : List Bool) (q : ℕ) → p + length w ≤ q → bit (laid s p w) q ≡ bit s q
 bit-after s p w q h =
     sym (bits-at (laid s p w) q) ∙ ap (λ (l : List Bool). getD l q false) (bits-laid s p w) ∙ getD-sets-after (bitsOf s) p w q false h ∙ bits-at s q
+
+-- ---- whole bytes
+
+bits-append : (a b : List ℕ) → bitsOf (a ++ b) ≡ bitsOf a ++ bitsOf b
+unfolding bitsOf
+bits-append [] b = refl
+bits-append (x ∷ a) b = ap (λ (l : List Bool). word 8 x ++ l) (bits-append a b) ∙ sym (append-assoc (word 8 x) (bitsOf a) (bitsOf b))
+
+bits-drop : (n : ℕ) (s : List ℕ) → drop (n * 8) (bitsOf s) ≡ bitsOf (drop n s)
+unfolding bitsOf
+bits-drop zero s = refl
+bits-drop (suc n) [] = drop-nil (suc n * 8)
+bits-drop (suc n) (x ∷ s) =
+    let e : suc n * 8 ≡ 8 + n * 8 = omega arith in
+    ap (λ (k : ℕ). drop k (word 8 x ++ bitsOf s)) e
+    ∙ sym (drop-drop (n * 8) 8 (word 8 x ++ bitsOf s))
+    ∙ ap (drop (n * 8)) (drop-at (word 8 x) (bitsOf s) 8 (length-word 8 x))
+    ∙ bits-drop n s
+
+bytes-append : (a b : List ℕ) → Bytes a → Bytes b → Bytes (a ++ b)
+bytes-append [] b ha hb i = hb i
+bytes-append (x ∷ a) b ha hb zero = ha 0
+bytes-append (x ∷ a) b ha hb (suc i) = bytes-append a b (λ j. ha (suc j)) hb i
+
+bytes-drop : (n : ℕ) (s : List ℕ) → Bytes s → Bytes (drop n s)
+bytes-drop zero s h = h
+bytes-drop (suc n) [] h = h
+bytes-drop (suc n) (x ∷ s) h = bytes-drop n s (λ i. h (suc i))
+
+bytes-cons : (x : ℕ) (s : List ℕ) → x < 256 → Bytes s → Bytes (x ∷ s)
+bytes-cons x s b h zero = b
+bytes-cons x s b h (suc i) = h i
+
+-- n bytes of bits laid behind a first byte
+pub laid-behind : (x : ℕ) (s : List ℕ) (n : ℕ) (w : List Bool) → x < 256 → Bytes s → length w ≡ n * 8 → n ≤ length s
+    → laid (x ∷ s) 8 w ≡ x ∷ (bytesOf n w ++ drop n s)
+unfolding bitsOf
+laid-behind x s n w b h l m =
+    let t = bytesOf n w ++ drop n s in
+    let long : length (laid (x ∷ s) 8 w) ≡ length (x ∷ t) =
+    omega (arith, length-laid (x ∷ s) 8 w, length-append (bytesOf n w) (drop n s), length-bytes n w, length-drop n s) in
+    let e : length (word 8 x) + 0 ≡ 8 = omega (arith, length-word 8 x) in
+    let z : 0 + length w ≡ n * 8 = omega arith in
+    let bits : bitsOf (laid (x ∷ s) 8 w) ≡ bitsOf (x ∷ t) =
+    bits-laid (x ∷ s) 8 w
+    ∙ ap (λ (k : ℕ). sets (word 8 x ++ bitsOf s) k w) (sym e)
+    ∙ sets-right (word 8 x) (bitsOf s) 0 w
+    ∙ ap (λ (y : List Bool). word 8 x ++ y)
+    (sets-eq w (bitsOf s) 0 (omega (arith, length-bits s))
+    ∙ ap (λ (k : ℕ). w ++ drop k (bitsOf s)) z
+    ∙ ap₂ (λ (u v : List Bool). u ++ v) (sym (bits-bytes n w l)) (bits-drop n s)
+    ∙ sym (bits-append (bytesOf n w) (drop n s))) in
+    same-bits (laid (x ∷ s) 8 w) (x ∷ t) (bytes-laid (x ∷ s) 8 w) (bytes-cons x t b (bytes-append (bytesOf n w) (drop n s) (bytes-made n w) (bytes-drop n s h))) long bits
 
 -- ---- three bytes changed as one number
 

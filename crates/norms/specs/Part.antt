@@ -19,6 +19,7 @@ use Rattle.words.specs.Answers.{good-coding, coding-fixed, coding-column}
 use Rattle.words.specs.Spell.{word-fixed, word-column}
 use Rattle.bits.specs.declared.Refusal.{Refusal}
 use Rattle.words.specs.Runs.{fit-length}
+use Rattle.words.specs.Writes.{run-few}
 use Rattle.norms.specs.Order.{sent, banded, sent-banded, banded-sent, length-banded, length-sent}
 use Rattle.norms.specs.Steps.{numbers, indices, Near, Below, indices-sound, indices-whole, length-numbers}
 
@@ -235,3 +236,8 @@ norm-bits transient flagN norms w = part-long flagN (numbersOf transient norms) 
 pub plain-bits : (transient : Bool) (norms : List ℕ) → Writable transient norms → length (normBits transient false norms) ≡ 220
 unfolding normBits words
 plain-bits transient norms w = plain-long (numbersOf transient norms) (norms-whole transient false norms w .1)
+
+-- of any norms at most 704 bits
+pub bits-few : (transient flagN : Bool) (norms : List ℕ) → length (normBits transient flagN norms) ≤ 704
+unfolding normBits
+bits-few transient flagN norms = omega (arith, run-few (normKinds flagN) (numbersOf transient norms), kinds-long flagN)

@@ -14,6 +14,7 @@ use Rattle.bits.specs.Laid.{laid-append, laid-none, length-laid}
 use Rattle.bits.specs.Codings.{wordOf}
 use Rattle.bits.specs.Codecs.{writeAll}
 use Rattle.words.specs.Tables.{coding}
+use Rattle.words.specs.Spell.{word-few}
 
 abbrev pub runBits : List ℕ → List ℕ → List Bool
 runBits kinds numbers = writeAll (map coding kinds) numbers
@@ -91,3 +92,11 @@ module _ (kinds numbers : List ℕ) where
     pub counted : length kinds ≤ i → n ≡ length (runBits kinds numbers)
     unfolding writeAll
     counted h = omega (arith, I .said, ap (λ (x : List ℕ). length (runBits x (drop i numbers))) (drop-of-length-le kinds h))
+
+-- a run has at most 16 bits a word
+pub run-few : (kinds numbers : List ℕ) → length (runBits kinds numbers) ≤ 16 * length kinds
+unfolding writeAll
+run-few [] numbers = omega arith
+run-few (k ∷ kinds) [] = omega arith
+run-few (k ∷ kinds) (v ∷ numbers) =
+    omega (arith, length-append (wordOf (coding k) v) (runBits kinds numbers), word-few k v, run-few kinds numbers)

@@ -1,2 +1,4 @@
 pub mod Tests
 pub mod Empty
+pub mod Writes
+pub mod Bodies

@@ -3,18 +3,35 @@ ghost use mathlib.Core.Path.{_≡_};
 ghost use mathlib.Core.List.{map};
 ghost use Prim.Native.Nat.{ℕ, _+_, _-_, _*_, _≤_, _<_};
 ghost use lib.ListN.{length};
-ghost use Rattle.bits.specs.Bits.{view, laid};
+ghost use Rattle.bits.specs.Bits.{view, laid, word, num};
 ghost use Rattle.words.specs.Tables.{coding};
 ghost use Rattle.writer.specs.Tests.{quietOf, fits, clear};
 ghost use Rattle.writer.specs.Empty.{emptyReply, emptyAfter};
+ghost use Rattle.writer.specs.Writes.{flagBits, earlyReply, lateReply, writeReply, planOf, writingOf, outAfter};
+ghost use Rattle.writer.specs.Bodies.{bodyBits};
+ghost use Rattle.frame.specs.Answers.{flagsOf};
+use frame::Flags;
+use frame::Record;
 use ground::replies::DONE;
+use ground::replies::OUT_OF_RANGE;
+use ground::replies::PAST_BUDGET;
 use ground::replies::SHORT_ROOM;
+use ground::replies::WIDE_CODE;
+use ground::replies::WRONG_TAIL;
+use prefix::Mode;
 
 // What writing answers: 0 with the next place, or the reply alone.
 #[repr(C)]
 pub struct Writing {
     pub reply: u8,
     pub next: usize,
+}
+
+// What a record's flags and norms say of its frame: how many bits the norms have, the budget, and the kinds of the 800 places.
+pub struct Plan {
+    pub norm_bits: usize,
+    pub budget: usize,
+    pub kinds: [u8; 800],
 }
 
 // Whether the noise is one that the kind of frame has: 0 to 3, and 0 in a transient frame.
@@ -67,7 +84,7 @@ fn all_clear(s: &[u8], at: usize, end: usize) -> bool
 
 // Lays the first n bits of one slice over another's from a place on.
 fn copy_bits(s: &[u8], n: usize, out: &mut [u8], at: usize)
-    requires { ⌜ at + n < 65536 ⌝ }
+    requires { ⌜ at + n < 4294967296 ⌝ }
     ensures { λ _. ⌜ now (out .exit) ≡ laid (now (out .entry)) at (view (now (s .entry)) 0 n) ⌝ }
 {
     let mut j: usize = 0;
@@ -92,5 +109,156 @@ pub fn write_empty(out: &mut [u8]) -> Writing
     Writing {
         reply: DONE,
         next: 1,
+    }
+}
+
+fn minus(a: usize, b: usize) -> usize
+    ensures { λ r. ⌜ r ≡ a - b ⌝ }
+{
+    if b < a { a - b } else { 0 }
+}
+
+fn wide(x: u16) -> usize
+    ensures { λ r. ⌜ (r ≡ x) × (r < 65536) ⌝ }
+{
+    x as usize
+}
+
+// 8 for the mode, 10 for the three rooms, 8 for the noise, and what the norms say: 8, 9 or 0.
+fn early_reply(r: Record, codes: usize, tail: usize, room: usize) -> u8
+    ensures { λ x. ⌜ x ≡ earlyReply r codes tail room ⌝ }
+{
+    if 19 < r.mode {
+        return OUT_OF_RANGE;
+    }
+    if codes < 800 {
+        return SHORT_ROOM;
+    }
+    if tail < 320 {
+        return SHORT_ROOM;
+    }
+    if room <= wide(Mode(r.mode).bytes()) {
+        return SHORT_ROOM;
+    }
+    if !is_quiet(r.transient, r.noise) {
+        return OUT_OF_RANGE;
+    }
+    let norms = r.norms;
+    norms::norm_reply(r.transient, norms)
+}
+
+fn flags_of(r: Record) -> Flags
+    ensures { λ f. ⌜ f ≡ flagsOf (flagBits r) ⌝ }
+{
+    Flags {
+        transient: r.transient,
+        l: r.flag_l,
+        n: r.flag_n,
+        c: r.flag_c,
+    }
+}
+
+fn plan_of(r: Record) -> Plan
+    ensures { λ p. ⌜ p ≡ planOf r ⌝ }
+{
+    let norms = r.norms;
+    let end = wide(Mode(r.mode).bytes()) * 8;
+    let norm_bits = norms::norm_bits(r.transient, r.flag_n, norms);
+    let at = 4 + norm_bits;
+    let budget = minus(minus(end, at), frame::spare_of(r.transient));
+    let kinds = frame::kinds_for(flags_of(r), norms, at, end);
+    Plan {
+        norm_bits,
+        budget,
+        kinds,
+    }
+}
+
+// 12 for a code without a word, 7 for codes past the budget, 13 for the tail, else 0.
+fn late_reply(kinds: &[u8], numbers: &[u16], tail: &[u8], budget: usize, count: usize) -> u8
+    requires { ⌜ (length (now kinds) ≡ length (now numbers)) × (length (now kinds) ≤ 800) ⌝ }
+    ensures { λ r. ⌜ r ≡ lateReply (now (kinds .entry)) (now (numbers .entry)) (now (tail .entry)) budget count ⌝ }
+{
+    if !all_fit(kinds, numbers) {
+        return WIDE_CODE;
+    }
+    let n = words::runs::run_bits(kinds, numbers);
+    if budget < n {
+        return PAST_BUDGET;
+    }
+    if count != budget - n {
+        return WRONG_TAIL;
+    }
+    if all_clear(tail, count, 2560) {
+        return DONE;
+    }
+    WRONG_TAIL
+}
+
+// The reply, before anything is written.
+fn check(r: Record, codes: &[u16], tail: &[u8], room: usize) -> u8
+    ensures { λ x. ⌜ x ≡ writeReply r (now (codes .entry)) (now (tail .entry)) room ⌝ }
+{
+    let early = early_reply(r, codes.len(), tail.len(), room);
+    if early != DONE {
+        return early;
+    }
+    let plan = plan_of(r);
+    let kinds = plan.kinds;
+    let numbers = &codes[..800];
+    late_reply(&kinds, numbers, tail, plan.budget, wide(r.tail_bits))
+}
+
+fn bit(b: bool) -> usize
+    ensures { λ r. ⌜ (r ≡ num b) × (r ≤ 1) ⌝ }
+{
+    if b { 1 } else { 0 }
+}
+
+// The four flags as a number, the first at the top.
+fn flag_number(r: Record) -> usize
+    ensures { λ n. ⌜ word 4 n ≡ flagBits r ⌝ }
+{
+    bit(r.transient) * 8 + bit(r.flag_l) * 4 + bit(r.flag_n) * 2 + bit(r.flag_c)
+}
+
+// Lays the body from bit 8 on: flags, norms, codes, noise, tail.
+fn write_body(r: Record, plan: Plan, numbers: &[u16], tail: &[u8], out: &mut [u8])
+    requires { ⌜ (plan ≡ planOf r) × (length (now numbers) ≡ 800) × (length (r .norms) ≡ 44) ⌝ }
+    ensures { λ _. ⌜ now (out .exit) ≡ laid (now (out .entry)) 8 (bodyBits r (now (numbers .entry)) (now (tail .entry))) ⌝ }
+{
+    let kinds = plan.kinds;
+    let norms = r.norms;
+    bits::write_bits(out, 8, 4, flag_number(r));
+    let n = norms::write_norms(out, 12, r.transient, r.flag_n, norms);
+    let m = words::runs::write_words(out, 12 + n, &kinds, numbers);
+    let k = frame::spare_of(r.transient);
+    bits::write_bits(out, 12 + n + m, k, wide8(r.noise));
+    copy_bits(tail, wide(r.tail_bits), out, 12 + n + m + k);
+}
+
+fn wide8(x: u8) -> usize
+    ensures { λ r. ⌜ r ≡ x ⌝ }
+{
+    x as usize
+}
+
+// Writes a record as a stored frame: 8 for the mode, 10, the other causes of 8, 9, 12, 7, 13. Only 0 changes the output, and exactly frame + 1 bytes.
+pub fn write(r: Record, codes: &[u16], tail: &[u8], out: &mut [u8]) -> Writing
+    ensures { λ w. ⌜ (w ≡ writingOf (writeReply r (now (codes .entry)) (now (tail .entry)) (length (now (out .entry)))) (r .mode))
+        × (now (out .exit) ≡ outAfter (writeReply r (now (codes .entry)) (now (tail .entry)) (length (now (out .entry)))) r (now (codes .entry)) (now (tail .entry)) (now (out .entry))) ⌝ }
+{
+    let reply = check(r, codes, tail, out.len());
+    if reply != DONE {
+        return Writing { reply, next: 0 };
+    }
+    let n = wide(Mode(r.mode).bytes());
+    let plan = plan_of(r);
+    let numbers = &codes[..800];
+    out[0] = (r.mode + 8) * 4;
+    write_body(r, plan, numbers, tail, out);
+    Writing {
+        reply: DONE,
+        next: n + 1,
     }
 }
