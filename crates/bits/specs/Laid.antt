@@ -148,7 +148,7 @@ bit-after s p w q h =
 
 -- ---- whole bytes
 
-bits-append : (a b : List ℕ) → bitsOf (a ++ b) ≡ bitsOf a ++ bitsOf b
+pub bits-append : (a b : List ℕ) → bitsOf (a ++ b) ≡ bitsOf a ++ bitsOf b
 unfolding bitsOf
 bits-append [] b = refl
 bits-append (x ∷ a) b = ap (λ (l : List Bool). word 8 x ++ l) (bits-append a b) ∙ sym (append-assoc (word 8 x) (bitsOf a) (bitsOf b))

@@ -2,3 +2,4 @@ pub mod Tests
 pub mod Empty
 pub mod Writes
 pub mod Bodies
+pub mod ReadBack
