@@ -3,3 +3,4 @@ pub mod Empty
 pub mod Writes
 pub mod Bodies
 pub mod ReadBack
+pub mod WriteBack
