@@ -3,3 +3,4 @@ pub mod Layout
 pub mod Places
 pub mod Answers
 pub mod Reads
+pub mod Budgets
