@@ -169,10 +169,16 @@ bytes-append [] b ha hb i = hb i
 bytes-append (x ∷ a) b ha hb zero = ha 0
 bytes-append (x ∷ a) b ha hb (suc i) = bytes-append a b (λ j. ha (suc j)) hb i
 
-bytes-drop : (n : ℕ) (s : List ℕ) → Bytes s → Bytes (drop n s)
+pub bytes-drop : (n : ℕ) (s : List ℕ) → Bytes s → Bytes (drop n s)
 bytes-drop zero s h = h
 bytes-drop (suc n) [] h = h
 bytes-drop (suc n) (x ∷ s) h = bytes-drop n s (λ i. h (suc i))
+
+pub bytes-take : (n : ℕ) (s : List ℕ) → Bytes s → Bytes (take n s)
+bytes-take zero s h i = omega arith
+bytes-take (suc n) [] h i = h i
+bytes-take (suc n) (x ∷ s) h zero = h zero
+bytes-take (suc n) (x ∷ s) h (suc i) = bytes-take n s (λ j. h (suc j)) i
 
 bytes-cons : (x : ℕ) (s : List ℕ) → x < 256 → Bytes s → Bytes (x ∷ s)
 bytes-cons x s b h zero = b

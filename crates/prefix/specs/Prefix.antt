@@ -3,11 +3,11 @@
 use mathlib.Core.Path.{_≡_, refl, sym, ap, _∙_}
 use mathlib.Core.Bool.{Bool, true, false, cond}
 use mathlib.Core.List.{List, [], _∷_}
-use Prim.Native.Nat.{ℕ, _+_, _-_, _*_, _/_, _%_, _≤_, _<_}
+use Prim.Native.Nat.{ℕ, zero, suc, _+_, _-_, _*_, _/_, _%_, _≤_, _<_}
 use native.Mathlib.Omega.{arith}
 use lib.Dec.{eqb, ltb}
 use lib.ListN.{length, getD}
-use borrow.Author.Tests.{eq-eqb, ne-eqb, lt-ltb, le-ltb}
+use borrow.Author.Tests.{eq-eqb, ne-eqb, lt-ltb, le-ltb, eqb-false}
 use Rattle.ground.specs.Replies.{done, noByte, marked, reserved, outOfRange, noData}
 use Rattle.prefix.specs.Sizes.{Size, noBody, notGiven, sized, tableA2, lengthBytes, modeBytes, a2-none, a2-low, a2-high, a2-sized, same-size}
 use Rattle.prefix.specs.declared.Length.{Length}
@@ -134,23 +134,45 @@ pub byte-none : (m : ℕ) → 19 < m → byteOf m ≡ OutOfRange
 unfolding byteOf
 byte-none m h = rw (le-ltb m 20 h)
 
--- a prefix that says data has a field L of 8 to 27
-said-sized : (z : Size) (l : ℕ) (f : Length) → tableA2 l ≡ z → said z l ≡ Data f → (8 ≤ f .0) × (f .0 ≤ 27)
+-- a prefix that says data has F 0, and its field L is 8 to 27
+said-sized : (z : Size) (l : ℕ) (f : Length) → tableA2 l ≡ z → said z l ≡ Data f → (8 ≤ f .0) × (f .0 ≤ 27) × (l ≡ f .0)
 said-sized noBody l f q e = absurd (let z : _≡_ {A = ℕ} 0 1 = cc in omega arith)
 said-sized notGiven l f q e = absurd (let z : _≡_ {A = ℕ} 0 1 = cc in omega arith)
 said-sized (sized n) l f q e =
     let g : _≡_ {A = Length} (record { 0 = l }) f = cc in
     let h : l ≡ f .0 = ap (λ (x : Length). x .0) g in
     let r = a2-sized l n q in
-    (omega (arith, r .0), omega (arith, r .1))
+    (omega (arith, r .0), omega (arith, r .1), h)
 
-pick-data : (a b : Bool) (p : Prefix) (f : Length) → cond a NoByte (cond b Marked p) ≡ Data f → p ≡ Data f
+pick-data : (a b : Bool) (p : Prefix) (f : Length) → cond a NoByte (cond b Marked p) ≡ Data f → (b ≡ false) × (p ≡ Data f)
 pick-data true b p f e = absurd (let z : _≡_ {A = ℕ} 0 1 = cc in omega arith)
 pick-data false true p f e = absurd (let z : _≡_ {A = ℕ} 0 1 = cc in omega arith)
-pick-data false false p f e = e
+pick-data false false p f e = (refl, e)
 
 pub prefix-data : (s : List ℕ) (f : Length) → prefixOf s ≡ Data f → (8 ≤ f .0) × (f .0 ≤ 27)
 unfolding prefixOf prefixByte
 prefix-data s f e =
     let b = getD s 0 0 in
-    said-sized (tableA2 (fieldL b)) (fieldL b) f refl (pick-data (eqb (length s) 0) (eqb (fieldF b) 1) (said (tableA2 (fieldL b)) (fieldL b)) f e)
+    let p = pick-data (eqb (length s) 0) (eqb (fieldF b) 1) (said (tableA2 (fieldL b)) (fieldL b)) f e in
+    let q = said-sized (tableA2 (fieldL b)) (fieldL b) f refl (p .1) in
+    (q .0, q .1)
+
+-- a byte with R = 0
+abbrev pub zeroR : ℕ → ℕ
+zeroR b = byteWith (fieldF b) (fieldL b) 0
+
+-- the byte of a mode is the byte that said it, with R = 0
+pub prefix-mode : (s : List ℕ) (f : Length) → getD s 0 0 < 256 → prefixOf s ≡ Data f → byteWith 0 (f .0 - 8 + 8) 0 ≡ zeroR (getD s 0 0)
+unfolding prefixOf prefixByte
+prefix-mode s f h e =
+    let b = getD s 0 0 in
+    let p = pick-data (eqb (length s) 0) (eqb (fieldF b) 1) (said (tableA2 (fieldL b)) (fieldL b)) f e in
+    let q = said-sized (tableA2 (fieldL b)) (fieldL b) f refl (p .1) in
+    let n = eqb-false (fieldF b) 1 (p .0) in
+    let z : fieldF b ≡ 0 = by-zero (fieldF b) (omega arith) n in
+    omega (arith, q .0, q .2, z)
+  where
+    by-zero : (x : ℕ) → x < 2 → (x ≡ 1 → ⊥) → x ≡ 0
+    by-zero zero h n = refl
+    by-zero (suc zero) h n = absurd (n refl)
+    by-zero (suc (suc x)) h n = absurd (omega arith)

@@ -14,14 +14,14 @@ use Rattle.ground.specs.Cases.{by-bool}
 use Rattle.ground.specs.Replies.{done}
 use Rattle.bits.specs.Bits.{view, bitsOf, bytesOf, Bytes}
 use Rattle.bits.specs.Bytes.{length-bytes, bits-bytes, bytes-bits, length-bits, view-part}
-use Rattle.bits.specs.Laid.{bits-append}
+use Rattle.bits.specs.Laid.{bits-append, bytes-drop, bytes-take}
 use Rattle.bits.specs.Views.{view-rest, view-front}
 use Rattle.bits.specs.Codings.{Answer, got, no}
 use Rattle.bits.specs.Codecs.{FitAll, words, raw, writeAll}
 use Rattle.words.specs.Tables.{coding}
 use Rattle.words.specs.Runs.{fit-length}
 use Rattle.prefix.specs.Sizes.{modeBytes, lengthBytes, mode-bounds, a2-between}
-use Rattle.prefix.specs.Prefix.{prefixOf, byteWith, prefix-data}
+use Rattle.prefix.specs.Prefix.{prefixOf, byteWith, zeroR, prefix-data, prefix-mode}
 use Rattle.prefix.specs.declared.Prefix.{Prefix}
 use Rattle.prefix.specs.declared.Prefix.the-variants.{Data, NoData, NoByte, Marked, Reserved}
 use Rattle.norms.specs.Part.{Writable, writable-ok, norm-bits}
@@ -60,6 +60,7 @@ body-sound m mode x body l e =
 pub record Sound (src : List ℕ) (mode : ℕ) (x : Frame) : Type 0 where
   pub low : mode < 20
   pub long : modeBytes mode < length src
+  pub first : getD src 0 0 < 256 → byteWith 0 (mode + 8) 0 ≡ zeroR (getD src 0 0)
   pub body : frame (modeBytes mode * 8) .read (bitsOf (bodyOf (modeBytes mode) src)) ≡ got x []
 
 started-sound : (src : List ℕ) (mode : ℕ) (x : Frame) (p : Prefix) → prefixOf src ≡ p → started p src ≡ sound mode x → Sound src mode x
@@ -79,6 +80,7 @@ started-sound src mode x (Data f) q e =
     record {
       low = omega (arith, o .0, d .1);
       long = subst (λ (k : ℕ). modeBytes k < length src) (o .0) l;
+      first = λ h. subst (λ (k : ℕ). byteWith 0 (k + 8) 0 ≡ zeroR (getD src 0 0)) (o .0) (prefix-mode src f h q);
       body = subst (λ (k : ℕ). frame (modeBytes k * 8) .read (bitsOf (bodyOf (modeBytes k) src)) ≡ got x []) (o .0) (o .1);
     })
     (λ t.
@@ -134,15 +136,8 @@ module _ (b : List Bool) (rest : List ℕ) (l : length b ≤ 2560) where
   unfolding tailBytes
   length-tail = let w = b ++ replicate (2560 - length b) false in omega (arith, length-append (bytesOf 320 w) rest, length-bytes 320 w)
 
-bytes-take : (n : ℕ) (s : List ℕ) → Bytes s → Bytes (take n s)
-bytes-take zero s h i = omega arith
-bytes-take (suc n) [] h i = h i
-bytes-take (suc n) (x ∷ s) h zero = h zero
-bytes-take (suc n) (x ∷ s) h (suc i) = bytes-take n s (λ j. h (suc j)) i
-
 bytes-body : (n : ℕ) (src : List ℕ) → Bytes src → Bytes (bodyOf n src)
-bytes-body n [] h = bytes-take n [] h
-bytes-body n (x ∷ s) h = bytes-take n s (λ i. h (suc i))
+bytes-body n src h = bytes-take n (drop 1 src) (bytes-drop 1 src h)
 
 fit-quiet : (t : Bool) (z : ℕ) → z < 2 ^ spare t → quietOf t z ≡ true
 unfolding quietOf spare
@@ -244,19 +239,19 @@ module _ (mode : ℕ) (a b c d : Bool) (ns vs : List ℕ) (z : ℕ) (tb : List B
   unfolding r ts x
   same-frame = ap₂ (λ (l : List ℕ) (w : List Bool). (a ∷ b ∷ c ∷ d ∷ [], (ns, (l, (z, w))))) codes-front (tail-front tb (drop 320 tail) few)
 
-  bytes-return : Bytes src → bytesFor r cs ts ≡ byteWith 0 (mode + 8) 0 ∷ bodyOf (modeBytes mode) src
+  bytes-return : Bytes src → bytesFor r cs ts ≡ zeroR (getD src 0 0) ∷ bodyOf (modeBytes mode) src
   unfolding bytesFor r t x
   bytes-return k =
       let n = modeBytes mode in
       let body = bodyOf n src in
       let e = frame t .there (bitsOf body) x [] (S .body) .0 in
-      ap (λ (l : List ℕ). byteWith 0 (mode + 8) 0 ∷ l) (ap (λ (y : Frame). bytesOf n (frame t .write y)) same-frame ∙ ap (bytesOf n) (sym (append-nil (frame t .write x)) ∙ sym e)
+      ap₂ (λ (b : ℕ) (l : List ℕ). b ∷ l) (S .first (k 0)) (ap (λ (y : Frame). bytesOf n (frame t .write y)) same-frame ∙ ap (bytesOf n) (sym (append-nil (frame t .write x)) ∙ sym e)
       ∙ ap (λ (j : ℕ). bytesOf j (bitsOf body)) (sym (length-body src n (S .long))) ∙ bytes-bits body (bytes-body n src k))
 
--- what was read is accepted by the writer, and its bytes return
+-- what was read is accepted by the writer, and its bytes return: the prefix byte with R = 0, and the body
 pub write-back : (src codes tail : List ℕ) (mode : ℕ) (x : Frame) (room : ℕ) → Bytes src → readAnswer src (length codes) (length tail) ≡ sound mode x → modeBytes mode < room
     → (writeReply (recordOf mode x) (codesAfter codes (sound mode x)) (tailAfter tail (sound mode x)) room ≡ 0)
-    × (bytesFor (recordOf mode x) (codesAfter codes (sound mode x)) (tailAfter tail (sound mode x)) ≡ byteWith 0 (mode + 8) 0 ∷ bodyOf (modeBytes mode) src)
+    × (bytesFor (recordOf mode x) (codesAfter codes (sound mode x)) (tailAfter tail (sound mode x)) ≡ zeroR (getD src 0 0) ∷ bodyOf (modeBytes mode) src)
 unfolding r cs ts
 write-back src codes tail mode (a ∷ b ∷ c ∷ d ∷ [], (ns, (vs, (z, tb)))) room k e h =
     let s = answer-sound src (length codes) (length tail) mode (a ∷ b ∷ c ∷ d ∷ [], (ns, (vs, (z, tb)))) e in
