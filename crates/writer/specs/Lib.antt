@@ -1,6 +1,7 @@
 pub mod Tests
 pub mod Empty
 pub mod Writes
+pub mod Choice
 pub mod Bodies
 pub mod ReadBack
 pub mod WriteBack

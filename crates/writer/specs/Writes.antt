@@ -47,7 +47,7 @@ abbrev pub budgetFor : Record → ℕ
 budgetFor r = budgetOf (total r) (flagBits r) (r .norms)
 
 unfoldable pub planOf : Record → Plan
-planOf r = record { «norm_bits» = length (normBits (r .transient) (r .«flag_n») (r .norms)); budget = budgetFor r; kinds = kindsFor r }
+planOf r = record { budget = budgetFor r; kinds = kindsFor r }
 
 -- ---- the replies
 
@@ -153,14 +153,13 @@ reply-late r cs ts room x y e n q = rw (← e, eq-eqb x 0 n) q
 pub plan-made : (r : Record) (n b e : ℕ) (ks : List ℕ) → n ≡ length (normBits (r .transient) (r .«flag_n») (r .norms)) → e ≡ total r
     → b ≡ e - (4 + n) - spare (r .transient)
     → ks ≡ kindsAt (r .transient) (wideIn e (r .«flag_l»)) (r .«flag_c») (r .norms) (e - (4 + n) - spare (r .transient))
-    → record { «norm_bits» = n; budget = b; kinds = ks } ≡ planOf r
+    → record { budget = b; kinds = ks } ≡ planOf r
 unfolding planOf budgetOf kindsOf
 plan-made r n b e ks en ee eb ek =
     let m : e - (4 + n) - spare (r .transient) ≡ total r - (4 + length (normBits (r .transient) (r .«flag_n») (r .norms))) - spare (r .transient) =
     ap₂ (λ (x y : ℕ). x - (4 + y) - spare (r .transient)) ee en in
     let q : ks ≡ kindsFor r = ek ∙ ap₂ (λ (x y : ℕ). kindsAt (r .transient) (wideIn x (r .«flag_l»)) (r .«flag_c») (r .norms) y) ee m in
-    ap (λ (x : ℕ). record { «norm_bits» = x; budget = b; kinds = ks }) en
-    ∙ ap₂ (λ (x : ℕ) (y : List ℕ). record { «norm_bits» = length (normBits (r .transient) (r .«flag_n») (r .norms)); budget = x; kinds = y }) (eb ∙ m) q
+    ap₂ (λ (x : ℕ) (y : List ℕ). record { budget = x; kinds = y }) (eb ∙ m) q
 
 -- a plan's kinds are those of 800 places
 pub plan-kinds : (r : Record) (p : Plan) → p ≡ planOf r → (p .kinds ≡ kindsFor r) × (p .budget ≡ budgetFor r) × (length (p .kinds) ≡ 800)

@@ -1,5 +1,6 @@
 // The writer of stored frames (01, Stored frame; 7.6, 7.8): the tests of a record, and the frame laid into a lent output.
 ghost use mathlib.Core.Path.{_≡_};
+ghost use mathlib.Core.Bool.{false};
 ghost use mathlib.Core.List.{map};
 ghost use Prim.Native.Nat.{ℕ, _+_, _-_, _*_, _≤_, _<_};
 ghost use lib.ListN.{length};
@@ -7,7 +8,8 @@ ghost use Rattle.bits.specs.Bits.{view, laid, word, num};
 ghost use Rattle.words.specs.Tables.{coding};
 ghost use Rattle.writer.specs.Tests.{quietOf, fits, clear};
 ghost use Rattle.writer.specs.Empty.{emptyReply, emptyAfter};
-ghost use Rattle.writer.specs.Writes.{flagBits, earlyReply, lateReply, writeReply, planOf, writingOf, outAfter};
+ghost use Rattle.writer.specs.Writes.{flagBits, earlyReply, lateReply, writeReply, kindsFor, planOf, writingOf, outAfter};
+ghost use Rattle.writer.specs.Choice.{asWord, asFixed, cheaper, plain, startReply, choiceOf};
 ghost use Rattle.writer.specs.Bodies.{bodyBits};
 ghost use Rattle.frame.specs.Answers.{flagsOf};
 use frame::Flags;
@@ -18,6 +20,7 @@ use ground::replies::PAST_BUDGET;
 use ground::replies::SHORT_ROOM;
 use ground::replies::WIDE_CODE;
 use ground::replies::WRONG_TAIL;
+use norms::Choice;
 use prefix::Mode;
 
 // What writing answers: 0 with the next place, or the reply alone.
@@ -27,9 +30,8 @@ pub struct Writing {
     pub next: usize,
 }
 
-// What a record's flags and norms say of its frame: how many bits the norms have, the budget, and the kinds of the 800 places.
+// What a record's flags and norms say of its frame: the budget, and the kinds of the 800 places.
 pub struct Plan {
-    pub norm_bits: usize,
     pub budget: usize,
     pub kinds: [u8; 800],
 }
@@ -112,6 +114,18 @@ pub fn write_empty(out: &mut [u8]) -> Writing
     }
 }
 
+fn refusal(reply: u8) -> Writing
+    ensures { λ w. ⌜ w ≡ record { reply = reply; next = 0 } ⌝ }
+{
+    Writing { reply, next: 0 }
+}
+
+fn no_choice(reply: u8) -> Choice
+    ensures { λ c. ⌜ c ≡ record { reply = reply; flag = false } ⌝ }
+{
+    Choice { reply, flag: false }
+}
+
 fn minus(a: usize, b: usize) -> usize
     ensures { λ r. ⌜ r ≡ a - b ⌝ }
 {
@@ -163,15 +177,10 @@ fn plan_of(r: Record) -> Plan
 {
     let norms = r.norms;
     let end = wide(Mode(r.mode).bytes()) * 8;
-    let norm_bits = norms::norm_bits(r.transient, r.flag_n, norms);
-    let at = 4 + norm_bits;
+    let at = 4 + norms::norm_bits(r.transient, r.flag_n, norms);
     let budget = minus(minus(end, at), frame::spare_of(r.transient));
     let kinds = frame::kinds_for(flags_of(r), norms, at, end);
-    Plan {
-        norm_bits,
-        budget,
-        kinds,
-    }
+    Plan { budget, kinds }
 }
 
 // 12 for a code without a word, 7 for codes past the budget, 13 for the tail, else 0.
@@ -195,20 +204,6 @@ fn late_reply(kinds: &[u8], numbers: &[u16], tail: &[u8], budget: usize, count: 
     WRONG_TAIL
 }
 
-// The reply, before anything is written.
-fn check(r: Record, codes: &[u16], tail: &[u8], room: usize) -> u8
-    ensures { λ x. ⌜ x ≡ writeReply r (now (codes .entry)) (now (tail .entry)) room ⌝ }
-{
-    let early = early_reply(r, codes.len(), tail.len(), room);
-    if early != DONE {
-        return early;
-    }
-    let plan = plan_of(r);
-    let kinds = plan.kinds;
-    let numbers = &codes[..800];
-    late_reply(&kinds, numbers, tail, plan.budget, wide(r.tail_bits))
-}
-
 fn bit(b: bool) -> usize
     ensures { λ r. ⌜ (r ≡ num b) × (r ≤ 1) ⌝ }
 {
@@ -223,15 +218,14 @@ fn flag_number(r: Record) -> usize
 }
 
 // Lays the body from bit 8 on: flags, norms, codes, noise, tail.
-fn write_body(r: Record, plan: Plan, numbers: &[u16], tail: &[u8], out: &mut [u8])
-    requires { ⌜ (plan ≡ planOf r) × (length (now numbers) ≡ 800) × (length (r .norms) ≡ 44) ⌝ }
+fn write_body(r: Record, kinds: &[u8], numbers: &[u16], tail: &[u8], out: &mut [u8])
+    requires { ⌜ (now kinds ≡ kindsFor r) × (length (now kinds) ≡ 800) × (length (now numbers) ≡ 800) ⌝ }
     ensures { λ _. ⌜ now (out .exit) ≡ laid (now (out .entry)) 8 (bodyBits r (now (numbers .entry)) (now (tail .entry))) ⌝ }
 {
-    let kinds = plan.kinds;
     let norms = r.norms;
     bits::write_bits(out, 8, 4, flag_number(r));
     let n = norms::write_norms(out, 12, r.transient, r.flag_n, norms);
-    let m = words::runs::write_words(out, 12 + n, &kinds, numbers);
+    let m = words::runs::write_words(out, 12 + n, kinds, numbers);
     let k = frame::spare_of(r.transient);
     bits::write_bits(out, 12 + n + m, k, wide8(r.noise));
     copy_bits(tail, wide(r.tail_bits), out, 12 + n + m + k);
@@ -248,17 +242,116 @@ pub fn write(r: Record, codes: &[u16], tail: &[u8], out: &mut [u8]) -> Writing
     ensures { λ w. ⌜ (w ≡ writingOf (writeReply r (now (codes .entry)) (now (tail .entry)) (length (now (out .entry)))) (r .mode))
         × (now (out .exit) ≡ outAfter (writeReply r (now (codes .entry)) (now (tail .entry)) (length (now (out .entry)))) r (now (codes .entry)) (now (tail .entry)) (now (out .entry))) ⌝ }
 {
-    let reply = check(r, codes, tail, out.len());
-    if reply != DONE {
-        return Writing { reply, next: 0 };
+    let early = early_reply(r, codes.len(), tail.len(), out.len());
+    if early != DONE {
+        return refusal(early);
+    }
+    let plan = plan_of(r);
+    let kinds = plan.kinds;
+    let numbers = &codes[..800];
+    let late = late_reply(&kinds, numbers, tail, plan.budget, wide(r.tail_bits));
+    if late != DONE {
+        return refusal(late);
     }
     let n = wide(Mode(r.mode).bytes());
-    let plan = plan_of(r);
-    let numbers = &codes[..800];
     out[0] = (r.mode + 8) * 4;
-    write_body(r, plan, numbers, tail, out);
+    write_body(r, &kinds, numbers, tail, out);
     Writing {
         reply: DONE,
         next: n + 1,
+    }
+}
+
+// 8 for the mode, 10 for under 800 numbers, and what the norms say: 8, 9 or 0.
+fn start_reply(r: Record, codes: usize) -> u8
+    ensures { λ x. ⌜ x ≡ startReply r codes ⌝ }
+{
+    if 19 < r.mode {
+        return OUT_OF_RANGE;
+    }
+    if codes < 800 {
+        return SHORT_ROOM;
+    }
+    let norms = r.norms;
+    norms::norm_reply(r.transient, norms)
+}
+
+// What a number costs as a word of Table 20 where the kind is 2 to 5, and nothing elsewhere.
+fn as_word(kind: u8, v: u16) -> usize
+    ensures { λ n. ⌜ (n ≡ asWord kind v) × (n ≤ 16) ⌝ }
+{
+    if kind < 2 {
+        return 0;
+    }
+    if 5 < kind {
+        return 0;
+    }
+    words::word_bits(kind + 14, v)
+}
+
+// What a fixed code costs there.
+fn as_fixed(kind: u8) -> usize
+    ensures { λ n. ⌜ (n ≡ asFixed kind) × (n ≤ 16) ⌝ }
+{
+    if kind < 2 {
+        return 0;
+    }
+    if 5 < kind {
+        return 0;
+    }
+    wide8(kind)
+}
+
+// Whether words cost less than fixed codes.
+fn words_cheaper(kinds: &[u8], numbers: &[u16]) -> bool
+    requires { ⌜ (length (now kinds) ≡ length (now numbers)) × (length (now kinds) ≤ 800) ⌝ }
+    ensures { λ b. ⌜ b ≡ cheaper (now (kinds .entry)) (now (numbers .entry)) ⌝ }
+{
+    let mut words: usize = 0;
+    let mut fixed: usize = 0;
+    let mut i: usize = 0;
+    while i < kinds.len() {
+        words += as_word(kinds[i], numbers[i]);
+        fixed += as_fixed(kinds[i]);
+        i += 1;
+    }
+    words < fixed
+}
+
+// The record with FlagC 0.
+fn plain(r: Record) -> Record
+    ensures { λ p. ⌜ p ≡ plain r ⌝ }
+{
+    let norms = r.norms;
+    Record {
+        mode: r.mode,
+        transient: r.transient,
+        flag_l: r.flag_l,
+        flag_n: r.flag_n,
+        flag_c: false,
+        norms,
+        noise: r.noise,
+        tail_bits: r.tail_bits,
+    }
+}
+
+// Chooses FlagC for a record and its codes: 8 for the mode, 10, the other causes of 8, 9, 12; else whether words cost less than fixed codes over the
+// bands at rates 2 to 5. Noise, tail and the record's own FlagC are not looked at.
+pub fn choose_flag_c(r: Record, codes: &[u16]) -> Choice
+    ensures { λ c. ⌜ c ≡ choiceOf r (now (codes .entry)) ⌝ }
+{
+    let start = start_reply(r, codes.len());
+    if start != DONE {
+        return no_choice(start);
+    }
+    let plan = plan_of(plain(r));
+    let kinds = plan.kinds;
+    let numbers = &codes[..800];
+    if !all_fit(&kinds, numbers) {
+        return no_choice(WIDE_CODE);
+    }
+    Choice {
+        reply: DONE,
+        flag: words_cheaper(&kinds, numbers),
     }
 }

@@ -12,20 +12,18 @@ use Rattle.words.specs.Tables.{coding}
 use Rattle.words.specs.Writes.{run-few}
 use Rattle.norms.specs.Part.{bits-few}
 use Rattle.frame.specs.Reads.{spare-le}
-use Rattle.writer.specs.Writes.{kindsFor, plan-kinds}
 use Rattle.writer.specs.Bodies.{body-laid}
 use borrow.Author.Needs.{needs}
 use Rattle.writer.proofs.write_body.Statement.{statement}
 use Rattle.writer.proofs.write_body.Tie as tie
 
 -- the norms and the codes have few bits
-few : (d : tie.After-spare-of) → (d .before .before .before .before .before .before .before .before .write-norms .result ≤ 704) × (d .before .before .before .write-words .result ≤ 12800) × (d .spare-of .result ≤ 2)
+few : (d : tie.After-spare-of) → (d .before .before .before .before .before .before .before .write-norms .result ≤ 704) × (d .before .before .before .write-words .result ≤ 12800) × (d .spare-of .result ≤ 2)
 few d =
-    let a = d .before .before .before .before .before .before .before .before .before .before .before .before .before .before .before .before .before .before .before .before .args in
-    let r = a .r in
-    let k = plan-kinds r (a .plan) (d .before .before .before .before .before .before .before .before .before .before .before .before .before .before .before .before .before .before .before .before .pre .0) .2 in (
-      omega (arith, d .before .before .before .before .before .before .before .before .write-norms .ensures .0, bits-few (r .transient) (r .«flag_n») (r .norms)),
-      omega (arith, d .before .before .before .write-words .ensures .0, run-few (a .plan .kinds) (now (a .numbers)), k),
+    let a = d .before .before .before .before .before .before .before .before .before .before .before .before .before .before .before .before .before .before .before .args in
+    let r = a .r in (
+      omega (arith, d .before .before .before .before .before .before .before .write-norms .ensures .0, bits-few (r .transient) (r .«flag_n») (r .norms)),
+      omega (arith, d .before .before .before .write-words .ensures .0, run-few (now (a .kinds)) (now (a .numbers)), d .before .before .before .before .before .before .before .before .before .before .before .before .before .before .before .before .before .before .before .pre .1),
       omega (arith, d .spare-of .ensures, spare-le (r .transient)),
     )
 
@@ -41,15 +39,11 @@ write-norms-requires c κs = search needs
 add-write-words : tie.Need-add-write-words
 add-write-words c = let r = c .before .before .before .before .before .before .before .before .before .before .before .before .before .before .before .args .r in omega (arith, c .before .before .before .write-norms .ensures .0, bits-few (r .transient) (r .«flag_n») (r .norms))
 
-slice-aggregate-write-words : tie.Need-slice-aggregate-write-words
-slice-aggregate-write-words c = search needs
-
 write-words-requires : tie.Need-write-words-requires
 write-words-requires c κs =
-    let a = c .before .before .before .before .before .before .before .before .before .before .before .before .before .before .before .before .args in
-    let r = a .r in
-    let k = plan-kinds r (a .plan) (c .before .before .before .before .before .before .before .before .before .before .before .before .before .before .before .before .pre .0) .2 in
-    (k ∙ sym (c .before .before .before .before .before .before .before .before .before .before .before .before .before .before .before .before .pre .1), omega (arith, k, c .before .before .before .before .write-norms .ensures .0, bits-few (r .transient) (r .«flag_n») (r .norms)))
+    let r = c .before .before .before .before .before .before .before .before .before .before .before .before .before .before .before .args .r in
+    let k = c .before .before .before .before .before .before .before .before .before .before .before .before .before .before .before .pre .1 in
+    (k ∙ sym (c .before .before .before .before .before .before .before .before .before .before .before .before .before .before .before .pre .2), omega (arith, k, c .before .before .before .write-norms .ensures .0, bits-few (r .transient) (r .«flag_n») (r .norms)))
 
 spare-of-requires : tie.Need-spare-of-requires
 spare-of-requires c κs = search needs
@@ -86,14 +80,14 @@ same-length c = search needs
 
 returns : tie.Need-returns
 returns c =
-    let a = c .before .before .before .before .before .before .before .before .before .before .before .before .before .before .before .before .before .before .before .before .before .before .before .before .before .before .before .before .before .before .args in
+    let a = c .before .before .before .before .before .before .before .before .before .before .before .before .before .before .before .before .before .before .before .before .before .before .before .before .before .before .before .before .before .args in
     let r = a .r in
     let vs = now (a .numbers) in
     let ts = now (a .tail) in
-    let q = plan-kinds r (a .plan) (c .before .before .before .before .before .before .before .before .before .before .before .before .before .before .before .before .before .before .before .before .before .before .before .before .before .before .before .before .before .before .pre .0) .0 in
-    let n = c .before .before .before .before .before .before .before .before .before .before .before .before .before .before .before .before .before .before .write-norms in
+    let q = c .before .before .before .before .before .before .before .before .before .before .before .before .before .before .before .before .before .before .before .before .before .before .before .before .before .before .before .before .before .pre .0 in
+    let n = c .before .before .before .before .before .before .before .before .before .before .before .before .before .before .before .before .before .write-norms in
     let w = c .before .before .before .before .before .before .before .before .before .before .before .before .before .write-words in
-    body-laid r vs ts (now (a .out)) _ _ _ _ _ _ _ _ _ _ (c .before .before .before .before .before .before .before .before .before .before .before .before .before .before .before .before .before .before .before .before .before .before .before .flag-number .ensures) (c .before .before .before .before .before .before .before .before .before .before .before .before .before .before .before .before .before .before .before .before .before .before .write-bits .ensures) (n .ensures .0) (n .ensures .1)
+    body-laid r vs ts (now (a .out)) _ _ _ _ _ _ _ _ _ _ (c .before .before .before .before .before .before .before .before .before .before .before .before .before .before .before .before .before .before .before .before .before .before .flag-number .ensures) (c .before .before .before .before .before .before .before .before .before .before .before .before .before .before .before .before .before .before .before .before .before .write-bits .ensures) (n .ensures .0) (n .ensures .1)
     (w .ensures .0 ∙ ap (λ (l : List ℕ). length (writeAll (map coding l) vs)) q)
     (w .ensures .1 ∙ ap (λ (l : List ℕ). laid (n .last .0) (12 + n .result) (writeAll (map coding l) vs)) q)
     (c .before .before .before .before .before .before .before .before .before .before .spare-of .ensures) (c .before .before .before .before .before .before .before .before .wide8 .ensures) (c .before .before .before .before .before .before .before .write-bits2 .ensures)
@@ -107,7 +101,6 @@ write-body-spec =
     write-bits-requires
     write-norms-requires
     add-write-words
-    slice-aggregate-write-words
     write-words-requires
     spare-of-requires
     add-write-bits

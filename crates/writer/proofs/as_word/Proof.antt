@@ -1,0 +1,26 @@
+-- `writer::as_word` meets its contract. Assumes nothing.
+use mathlib.Core.Path.{_≡_, refl, sym, ap, _∙_}
+use native.Mathlib.Omega.{arith}
+use Prim.Native.Nat.{ℕ, _+_, _≤_, _<_}
+use Rattle.writer.specs.Choice.{word-yes, word-low, word-high}
+use borrow.Author.Needs.{needs}
+use Rattle.writer.proofs.as_word.Statement.{statement}
+use Rattle.writer.proofs.as_word.Tie as tie
+
+returns : tie.Need-returns
+returns c = (word-low (c .before .args .kind) (c .before .args .v) (c .if1 .taken), omega arith)
+
+returns-2 : tie.Need-returns-2
+returns-2 c = (word-high (c .before .before .args .kind) (c .before .before .args .v) (c .before .if1 .left) (c .if2 .taken), omega arith)
+
+add-word-bits : tie.Need-add-word-bits
+add-word-bits c = search needs
+
+word-bits-requires : tie.Need-word-bits-requires
+word-bits-requires c κs = search needs
+
+returns-3 : tie.Need-returns-3
+returns-3 c = word-yes (c .before .before .before .args .kind) (c .before .before .before .args .v) _ (c .before .before .if1 .left) (c .before .if2 .left) (c .word-bits .ensures)
+
+pub as-word-spec : {M : Type 1} → statement M
+as-word-spec = tie.close (tie.spec returns returns-2 add-word-bits word-bits-requires returns-3)
