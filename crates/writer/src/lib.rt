@@ -1,6 +1,5 @@
 // The writer of stored frames (01, Stored frame; 7.6, 7.8): the tests of a record, and the frame laid into a lent output.
 ghost use mathlib.Core.Path.{_≡_};
-ghost use mathlib.Core.Bool.{false};
 ghost use mathlib.Core.List.{map};
 ghost use Prim.Native.Nat.{ℕ, _+_, _-_, _*_, _≤_, _<_};
 ghost use lib.ListN.{length};
@@ -9,7 +8,6 @@ ghost use Rattle.words.specs.Tables.{coding};
 ghost use Rattle.writer.specs.Tests.{quietOf, fits, clear};
 ghost use Rattle.writer.specs.Empty.{emptyReply, emptyAfter};
 ghost use Rattle.writer.specs.Writes.{flagBits, earlyReply, lateReply, writeReply, kindsFor, planOf, writingOf, outAfter};
-ghost use Rattle.writer.specs.Choice.{asWord, asFixed, cheaper, plain, startReply, choiceOf};
 ghost use Rattle.writer.specs.Bodies.{bodyBits};
 ghost use Rattle.frame.specs.Answers.{flagsOf};
 use frame::Flags;
@@ -20,8 +18,9 @@ use ground::replies::PAST_BUDGET;
 use ground::replies::SHORT_ROOM;
 use ground::replies::WIDE_CODE;
 use ground::replies::WRONG_TAIL;
-use norms::Choice;
 use prefix::Mode;
+
+pub mod choice;
 
 // What writing answers: 0 with the next place, or the reply alone.
 #[repr(C)]
@@ -118,12 +117,6 @@ fn refusal(reply: u8) -> Writing
     ensures { λ w. ⌜ w ≡ record { reply = reply; next = 0 } ⌝ }
 {
     Writing { reply, next: 0 }
-}
-
-fn no_choice(reply: u8) -> Choice
-    ensures { λ c. ⌜ c ≡ record { reply = reply; flag = false } ⌝ }
-{
-    Choice { reply, flag: false }
 }
 
 fn minus(a: usize, b: usize) -> usize
@@ -259,99 +252,5 @@ pub fn write(r: Record, codes: &[u16], tail: &[u8], out: &mut [u8]) -> Writing
     Writing {
         reply: DONE,
         next: n + 1,
-    }
-}
-
-// 8 for the mode, 10 for under 800 numbers, and what the norms say: 8, 9 or 0.
-fn start_reply(r: Record, codes: usize) -> u8
-    ensures { λ x. ⌜ x ≡ startReply r codes ⌝ }
-{
-    if 19 < r.mode {
-        return OUT_OF_RANGE;
-    }
-    if codes < 800 {
-        return SHORT_ROOM;
-    }
-    let norms = r.norms;
-    norms::norm_reply(r.transient, norms)
-}
-
-// What a number costs as a word of Table 20 where the kind is 2 to 5, and nothing elsewhere.
-fn as_word(kind: u8, v: u16) -> usize
-    ensures { λ n. ⌜ (n ≡ asWord kind v) × (n ≤ 16) ⌝ }
-{
-    if kind < 2 {
-        return 0;
-    }
-    if 5 < kind {
-        return 0;
-    }
-    words::word_bits(kind + 14, v)
-}
-
-// What a fixed code costs there.
-fn as_fixed(kind: u8) -> usize
-    ensures { λ n. ⌜ (n ≡ asFixed kind) × (n ≤ 16) ⌝ }
-{
-    if kind < 2 {
-        return 0;
-    }
-    if 5 < kind {
-        return 0;
-    }
-    wide8(kind)
-}
-
-// Whether words cost less than fixed codes.
-fn words_cheaper(kinds: &[u8], numbers: &[u16]) -> bool
-    requires { ⌜ (length (now kinds) ≡ length (now numbers)) × (length (now kinds) ≤ 800) ⌝ }
-    ensures { λ b. ⌜ b ≡ cheaper (now (kinds .entry)) (now (numbers .entry)) ⌝ }
-{
-    let mut words: usize = 0;
-    let mut fixed: usize = 0;
-    let mut i: usize = 0;
-    while i < kinds.len() {
-        words += as_word(kinds[i], numbers[i]);
-        fixed += as_fixed(kinds[i]);
-        i += 1;
-    }
-    words < fixed
-}
-
-// The record with FlagC 0.
-fn plain(r: Record) -> Record
-    ensures { λ p. ⌜ p ≡ plain r ⌝ }
-{
-    let norms = r.norms;
-    Record {
-        mode: r.mode,
-        transient: r.transient,
-        flag_l: r.flag_l,
-        flag_n: r.flag_n,
-        flag_c: false,
-        norms,
-        noise: r.noise,
-        tail_bits: r.tail_bits,
-    }
-}
-
-// Chooses FlagC for a record and its codes: 8 for the mode, 10, the other causes of 8, 9, 12; else whether words cost less than fixed codes over the
-// bands at rates 2 to 5. Noise, tail and the record's own FlagC are not looked at.
-pub fn choose_flag_c(r: Record, codes: &[u16]) -> Choice
-    ensures { λ c. ⌜ c ≡ choiceOf r (now (codes .entry)) ⌝ }
-{
-    let start = start_reply(r, codes.len());
-    if start != DONE {
-        return no_choice(start);
-    }
-    let plan = plan_of(plain(r));
-    let kinds = plan.kinds;
-    let numbers = &codes[..800];
-    if !all_fit(&kinds, numbers) {
-        return no_choice(WIDE_CODE);
-    }
-    Choice {
-        reply: DONE,
-        flag: words_cheaper(&kinds, numbers),
     }
 }

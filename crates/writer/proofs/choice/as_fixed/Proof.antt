@@ -1,11 +1,11 @@
--- `writer::as_fixed` meets its contract. Assumes nothing.
+-- `writer::choice::as_fixed` meets its contract. Assumes nothing.
 use mathlib.Core.Path.{_≡_, refl, sym, ap, _∙_}
 use native.Mathlib.Omega.{arith}
 use Prim.Native.Nat.{ℕ, _+_, _≤_, _<_}
 use Rattle.writer.specs.Choice.{fixed-yes, fixed-low, fixed-high}
 use borrow.Author.Needs.{needs}
-use Rattle.writer.proofs.as_fixed.Statement.{statement}
-use Rattle.writer.proofs.as_fixed.Tie as tie
+use Rattle.writer.proofs.choice.as_fixed.Statement.{statement}
+use Rattle.writer.proofs.choice.as_fixed.Tie as tie
 
 returns : tie.Need-returns
 returns c = (fixed-low (c .before .args .kind) (c .if1 .taken), omega arith)

@@ -1,4 +1,4 @@
--- `writer::choose_flag_c` meets its contract. Assumes nothing.
+-- `writer::choice::choose_flag_c` meets its contract. Assumes nothing.
 use mathlib.Core.Path.{_≡_, refl, sym, ap, _∙_}
 use native.Mathlib.Omega.{arith}
 use Prim.Native.Nat.{ℕ, _≤_}
@@ -9,8 +9,8 @@ use borrow.Author.Tests.{not-true, not-false}
 use Rattle.writer.specs.Writes.{kindsFor, planOf, plan-kinds}
 use Rattle.writer.specs.Choice.{plain, start-room, choice-start, choice-wide, choice-made, cheaper-is}
 use borrow.Author.Needs.{needs}
-use Rattle.writer.proofs.choose_flag_c.Statement.{statement}
-use Rattle.writer.proofs.choose_flag_c.Tie as tie
+use Rattle.writer.proofs.choice.choose_flag_c.Statement.{statement}
+use Rattle.writer.proofs.choice.choose_flag_c.Tie as tie
 
 -- a start of 0 had 800 numbers
 many : (d : tie.Else1) → 800 ≤ length (now (d .before .before .before .args .codes))

@@ -1,4 +1,4 @@
--- `writer::words_cheaper` meets its contract: both costs of the places passed. Assumes nothing.
+-- `writer::choice::words_cheaper` meets its contract: both costs of the places passed. Assumes nothing.
 use mathlib.Core.Path.{_≡_, refl, sym, ap, ap₂, _∙_}
 use native.Mathlib.Omega.{arith}
 use Prim.Native.Nat.{ℕ, _+_, _-_, _*_, _≤_, _<_}
@@ -6,8 +6,8 @@ use denote.Ref.{now}
 use lib.ListN.{length, getD}
 use Rattle.writer.specs.Choice.{Costing, cost-start, cost-turn, cost-end}
 use borrow.Author.Needs.{needs}
-use Rattle.writer.proofs.words_cheaper.Statement.{statement}
-use Rattle.writer.proofs.words_cheaper.Tie as tie
+use Rattle.writer.proofs.choice.words_cheaper.Statement.{statement}
+use Rattle.writer.proofs.choice.words_cheaper.Tie as tie
 
 abbrev Inv-loop : tie.InvT-loop
 Inv-loop kinds numbers words₀ fixed₀ i₀ words fixed i = (i ≤ length kinds) × Costing kinds numbers words fixed i

@@ -1,11 +1,11 @@
--- `writer::as_word` meets its contract. Assumes nothing.
+-- `writer::choice::as_word` meets its contract. Assumes nothing.
 use mathlib.Core.Path.{_≡_, refl, sym, ap, _∙_}
 use native.Mathlib.Omega.{arith}
 use Prim.Native.Nat.{ℕ, _+_, _≤_, _<_}
 use Rattle.writer.specs.Choice.{word-yes, word-low, word-high}
 use borrow.Author.Needs.{needs}
-use Rattle.writer.proofs.as_word.Statement.{statement}
-use Rattle.writer.proofs.as_word.Tie as tie
+use Rattle.writer.proofs.choice.as_word.Statement.{statement}
+use Rattle.writer.proofs.choice.as_word.Tie as tie
 
 returns : tie.Need-returns
 returns c = (word-low (c .before .args .kind) (c .before .args .v) (c .if1 .taken), omega arith)

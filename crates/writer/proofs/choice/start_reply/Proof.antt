@@ -1,9 +1,9 @@
--- `writer::start_reply` meets its contract, in 01's order. Assumes nothing.
+-- `writer::choice::start_reply` meets its contract, in 01's order. Assumes nothing.
 use mathlib.Core.Path.{_≡_, refl, sym, ap, _∙_}
 use Rattle.writer.specs.Choice.{start-mode, start-short, start-norms}
 use borrow.Author.Needs.{needs}
-use Rattle.writer.proofs.start_reply.Statement.{statement}
-use Rattle.writer.proofs.start_reply.Tie as tie
+use Rattle.writer.proofs.choice.start_reply.Statement.{statement}
+use Rattle.writer.proofs.choice.start_reply.Tie as tie
 
 returns : tie.Need-returns
 returns c = start-mode (c .before .before .args .r) (c .before .before .args .codes) (c .if1 .taken)
