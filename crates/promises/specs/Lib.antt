@@ -1,0 +1,3 @@
+pub mod Numbers
+pub mod Demand1
+pub mod Demand3
