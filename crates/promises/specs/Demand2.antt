@@ -1,0 +1,156 @@
+-- Demand 2. Reading and writing agree with JT-G719 and with the paper. Write back a frame that was read: its bytes return. Read a record that was
+-- written: that record returns. At rates 2–9 lattice indices and points match one to one; any other point is refused.
+-- Assumes nothing.
+use mathlib.Core.Path.{_≡_, refl, sym, ap, ap₂, _∙_, subst}
+use mathlib.Core.Bool.{Bool, true, false, cond}
+use mathlib.Core.List.{List, [], _∷_, _++_, append-nil}
+use Prim.Native.Nat.{ℕ, suc, _+_, _-_, _*_, _≤_, _<_, zero-le}
+use native.Mathlib.Numerals.{add-one}
+use native.Mathlib.Omega.{arith}
+use lib.Dec.{ltb}
+use lib.IntN.{ℤ}
+use lib.ListN.{length, getD, take, drop, length-append}
+use lib.Seq.{take-at}
+use Rattle.ground.specs.Replies.{done, cut, shortRoom}
+use Rattle.bits.specs.Bits.{bitsOf, bytesOf, Bytes}
+use Rattle.bits.specs.Bytes.{bits-bytes, length-bytes}
+use Rattle.bits.specs.Codings.{Answer, got, no}
+use Rattle.bits.specs.declared.Refusal.the-variants.{Outside, Missing, Past}
+use Rattle.prefix.specs.Sizes.{modeBytes, lengthBytes}
+use Rattle.prefix.specs.Prefix.{prefixOf, prefixByte, byteWith, zeroR, read-some, r-ignored, read-written}
+use Rattle.prefix.specs.declared.Prefix.{Prefix}
+use Rattle.prefix.specs.declared.Prefix.the-variants.{Data, NoData, NoByte, Marked, Reserved}
+use Rattle.frame.specs.Layout.{Frame, frame}
+use Rattle.frame.specs.Answers.{Outcome, refused, empty, sound, outcome, readBody, bodyOf, started, readAnswer, readingOf, codesAfter, tailAfter}
+use Rattle.frame.specs.Reads.{read-started, data-whole}
+use Rattle.frame.specs.declared.Record.{Record}
+use Rattle.writer.specs.Writes.{kindsFor, budgetFor, earlyReply, lateReply, writeReply, outAfter, Roomy, early-norms, late-pad, reply-late}
+use Rattle.writer.specs.Tests.{all-fits}
+use Rattle.writer.specs.Bodies.{Passed, passed}
+use Rattle.writer.specs.ReadBack as readback
+use Rattle.writer.specs.WriteBack.{write-back}
+use Rattle.lattice.specs.Answers.{pointOf, indexOf, noPoint, noIndex}
+use Rattle.lattice.specs.OneToOne as lattice
+use Rattle.codebook.specs.Codebook.{rowPoint, rowIndex, noRow}
+use Rattle.codebook.specs.OneToOne as codebook
+use Rattle.promises.specs.Numbers.{picked}
+
+-- ---- Write back a frame that was read: its bytes return, with R zero
+
+-- the record, the numbers and the bytes of a reading, written: reply 0, and the output holds the source's first bytes, as many as the frame has, with R zero
+abbrev pub Returned : List ℕ → List ℕ → List ℕ → List ℕ → Outcome → Type 0
+Returned src codes tail out a =
+    (writeReply (readingOf a .«record») (codesAfter codes a) (tailAfter tail a) (length out) ≡ 0)
+    × (outAfter 0 (readingOf a .«record») (codesAfter codes a) (tailAfter tail a) out
+    ≡ take (readingOf a .next) (zeroR (getD src 0 0) ∷ drop 1 src) ++ drop (readingOf a .next) out)
+
+-- a refusal is never 0
+abbrev NotDone : Outcome → Type 0
+NotDone (refused x) = x ≡ 0 → ⊥
+NotDone empty = Unit {0}
+NotDone (sound mode x) = Unit {0}
+
+body-told : (mode : ℕ) (a : Answer Frame) → NotDone (outcome mode a)
+body-told mode (got x r) = tt
+body-told mode (no Outside) = λ e. omega arith
+body-told mode (no Missing) = λ e. omega arith
+body-told mode (no Past) = λ e. omega arith
+
+started-told : (src : List ℕ) (p : Prefix) → NotDone (started p src)
+unfolding readBody
+started-told src NoByte = λ e. omega arith
+started-told src Marked = λ e. omega arith
+started-told src Reserved = λ e. omega arith
+started-told src NoData = tt
+started-told src (Data l) =
+    let n = lengthBytes (l .0) in
+    picked NotDone (ltb n (length src)) (readBody (l .0 - 8) (bodyOf n src)) (refused cut) (body-told (l .0 - 8) (frame (length (bodyOf n src) * 8) .read (bitsOf (bodyOf n src)))) (λ e. omega arith)
+
+answer-told : (src : List ℕ) (codes tail : ℕ) → NotDone (readAnswer src codes tail)
+unfolding readAnswer
+answer-told src codes tail =
+    picked NotDone (ltb codes 800) (refused shortRoom) (cond (ltb tail 320) (refused shortRoom) (started (prefixOf src) src)) (λ e. omega arith)
+    (picked NotDone (ltb tail 320) (refused shortRoom) (started (prefixOf src) src) (λ e. omega arith) (started-told src (prefixOf src)))
+
+returned : (src codes tail out : List ℕ) (a : Outcome) → Bytes src → readAnswer src (length codes) (length tail) ≡ a → NotDone a → readingOf a .reply ≡ 0
+    → readingOf a .next ≤ length out → Returned src codes tail out a
+returned src codes tail out (refused x) b e n z h = absurd (n z)
+returned src codes tail out empty b e n z h = absurd (omega arith)
+returned src codes tail out (sound mode x) b e n z h =
+    let w = write-back src codes tail mode x (length out) b e (omega arith) in (
+      w .0,
+      ap (λ (l : List ℕ). l ++ drop (modeBytes mode + 1) out) (w .1 ∙ ap (λ (k : ℕ). take k (zeroR (getD src 0 0) ∷ drop 1 src)) (sym (add-one (modeBytes mode)))),
+    )
+
+pub written-back : (src codes tail out : List ℕ) → Bytes src → readingOf (readAnswer src (length codes) (length tail)) .reply ≡ 0
+    → readingOf (readAnswer src (length codes) (length tail)) .next ≤ length out → Returned src codes tail out (readAnswer src (length codes) (length tail))
+written-back src codes tail out b z h =
+    let a = readAnswer src (length codes) (length tail) in returned src codes tail out a b refl (answer-told src (length codes) (length tail)) z h
+
+-- ---- Read a record that was written: that record returns, whatever stands behind it in the output
+
+pub read-back : (r : Record) (cs ts out codes tail : List ℕ) → length (r .norms) ≡ 44 → Bytes (take 320 ts) → 800 ≤ length codes → 320 ≤ length tail
+    → writeReply r cs ts (length out) ≡ 0
+    → (readingOf (readAnswer (outAfter 0 r cs ts out) (length codes) (length tail)) ≡ record { reply = done; next = modeBytes (r .mode) + 1; «record» = r })
+    × (codesAfter codes (readAnswer (outAfter 0 r cs ts out) (length codes) (length tail)) ≡ take 800 cs ++ drop 800 codes)
+    × (tailAfter tail (readAnswer (outAfter 0 r cs ts out) (length codes) (length tail)) ≡ take 320 ts ++ drop 320 tail)
+read-back r cs ts out codes tail l b hc ht z =
+    readback.read-back r cs ts (length out) l (passed r cs ts (length out) z) (drop (modeBytes (r .mode) + 1) out) codes tail b hc ht
+
+-- ---- Nothing hollow: every record that obeys the rules is written, and every frame that obeys them is read
+
+-- Passed (writer/specs/Bodies) says the rules: mode, rooms, noise, norms, each code a word of its kind, Ψ kept, the tail's count and padding
+pub written-exactly : (r : Record) (cs ts : List ℕ) (room : ℕ) → (writeReply r cs ts room ≡ 0 → Passed r cs ts room) × (Passed r cs ts room → writeReply r cs ts room ≡ 0)
+written-exactly r cs ts room = (passed r cs ts room, writes)
+  where
+    writes : Passed r cs ts room → writeReply r cs ts room ≡ 0
+    writes P =
+        let R = P .rooms in
+        let ks = kindsFor r in
+        let vs = take 800 cs in
+        let early : earlyReply r (length cs) (length ts) room ≡ 0 =
+        sym (early-norms r (length cs) (length ts) room (R .mode) (R .codes) (R .tail) (modeBytes (r .mode)) refl (R .out) (R .quiet)) ∙ R .norms in
+        let late : lateReply ks vs ts (budgetFor r) (r .«tail_bits») ≡ 0 =
+        sym (late-pad ks vs ts (budgetFor r) (r .«tail_bits») (all-fits _ vs (P .fit)) _ refl (P .paid) true (P .count) (P .pad)) in
+        sym (reply-late r cs ts room _ _ refl early refl) ∙ late
+
+-- a frame by the rules (the codec `frame`, frame/specs/Layout) as long as its mode says, behind its prefix byte with any R and before anything
+pub read-exactly : (mode x : ℕ) (f : Frame) (rest : List ℕ) (codes tail : ℕ) → mode < 20 → x < 4 → frame (modeBytes mode * 8) .Ok f
+    → length (frame (modeBytes mode * 8) .write f) ≡ modeBytes mode * 8 → 800 ≤ codes → 320 ≤ tail
+    → readAnswer (byteWith 0 (mode + 8) x ∷ (bytesOf (modeBytes mode) (frame (modeBytes mode * 8) .write f) ++ rest)) codes tail ≡ sound mode f
+unfolding readBody
+read-exactly mode x f rest codes tail hm hx k l hc ht =
+    let n = modeBytes mode in
+    let w = frame (n * 8) .write f in
+    let b = bytesOf n w in
+    let src = byteWith 0 (mode + 8) x ∷ (b ++ rest) in
+    let p : prefixOf src ≡ Data (record { 0 = mode + 8 }) =
+    read-some src (omega arith) ∙ r-ignored 0 (mode + 8) x 0 (omega arith) hx (omega arith) ∙ sym (read-some (byteWith 0 (mode + 8) 0 ∷ (b ++ rest)) (omega arith)) ∙ read-written mode (b ++ rest) hm in
+    let lb = length-bytes n w in
+    let s : n < length src = omega (arith, length-append b rest, lb) in
+    let e : mode + 8 - 8 ≡ mode = omega arith in
+    read-started src codes tail hc ht (Data (record { 0 = mode + 8 })) (sym p)
+    ∙ data-whole src (record { 0 = mode + 8 }) n (sym (Rattle.prefix.specs.Sizes.length-bytes mode hm)) s
+    ∙ ap₂ readBody e (take-at b rest n lb)
+    ∙ ap₂ (λ (i : ℕ) (y : List Bool). outcome mode (frame (i * 8) .read y)) lb (bits-bytes n w l ∙ sym (append-nil w))
+    ∙ ap (outcome mode) (frame (n * 8) .back f [] k zero-le)
+
+-- ---- At rates 2–9 lattice indices and points match one to one; any other point is refused
+
+pub one-to-one : (rate : ℕ) → 2 ≤ rate → rate ≤ 9 → lattice.OneToOne rate
+one-to-one = lattice.one-to-one
+
+pub other-rates : (rate : ℕ) → (2 ≤ rate → rate ≤ 9 → ⊥) → (k : List ℕ) (v : List ℤ) → (pointOf rate k ≡ noPoint) × (indexOf rate v ≡ noIndex)
+other-rates = lattice.foreign
+
+-- rate 1 likewise, by the 256 rows of Table 18
+pub rows-one-to-one : codebook.OneToOne
+rows-one-to-one = codebook.one-to-one
+
+pub other-rates-than-1 : (rate : ℕ) → (rate ≡ 1 → ⊥) → (n : ℕ) (v : List ℤ) → (rowPoint rate n ≡ noPoint) × (rowIndex rate v ≡ noRow)
+other-rates-than-1 = codebook.foreign
+
+-- ---- Every promise of this library is one equation against a definition, so two results that meet it are equal
+
+pub unique : {A : Type 0} (answer a b : A) → a ≡ answer → b ≡ answer → a ≡ b
+unique answer a b p q = p ∙ sym q
