@@ -1,2 +1,5 @@
 pub mod Walk
 pub mod Turns
+pub mod Frames
+pub mod Told
+pub mod Checked

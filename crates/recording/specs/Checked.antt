@@ -1,0 +1,126 @@
+-- What the check answers, number by number: each exactly when 01 says so, with the true count and place.
+-- Assumes nothing.
+use mathlib.Core.Path.{_≡_, refl, sym, ap, _∙_, subst}
+use mathlib.Core.Bool.{Bool, true, false, cond}
+use mathlib.Core.List.{List, [], _∷_, _++_, append-nil}
+use mathlib.Core.Logic.{_⊎_, inl, inr}
+use Prim.Native.Nat.{ℕ, zero, suc, _+_, _-_, _≤_, _<_}
+use native.Mathlib.Omega.{arith}
+use lib.Dec.{eqb}
+use lib.ListN.{length}
+use borrow.Author.Tests.{eq-eqb, ne-eqb, eqb-true, eqb-false}
+use Rattle.ground.specs.Cases.{by-bool}
+use Rattle.ground.specs.Replies.{done, noByte, shortRoom, notAsBooked, noData, tooMany}
+use Rattle.frame.specs.Answers.{Outcome, refused}
+use Rattle.recording.specs.Walk.{storedAt, stopped, ahead, ahead-stopped, walk, booked, mostFrames, checkOf, Fits, stored-fits, walk-end, walk-full, walk-refused}
+use Rattle.recording.specs.Frames.{Frames}
+use Rattle.recording.specs.Told.{Stop, ended, passed, met, Told, walk-told, walk-frames}
+use Rattle.recording.specs.declared.answer.Check.{Check}
+
+-- ---- the booking
+
+module _ (b : ℕ) (w : Check) where
+  pub booked-done : w .reply ≡ done → w .count ≡ b → booked b w ≡ w
+  unfolding booked
+  booked-done e q = rw (eq-eqb (w .reply) done e, eq-eqb (w .count) b q)
+
+  pub booked-missed : w .reply ≡ done → (w .count ≡ b → ⊥) → booked b w ≡ record { reply = notAsBooked; count = w .count; place = w .place }
+  unfolding booked
+  booked-missed e q = rw (eq-eqb (w .reply) done e, ne-eqb (w .count) b q)
+
+  pub booked-other : (w .reply ≡ done → ⊥) → booked b w ≡ w
+  unfolding booked
+  booked-other e = rw (ne-eqb (w .reply) done e)
+
+-- a frame that is there is refused with 2 to 7
+refusal : (rest : List ℕ) (x : ℕ) → 0 < length rest → storedAt rest ≡ refused x → (2 ≤ x) × (x ≤ 7)
+refusal rest x h e = subst (Fits rest) e (stored-fits rest h)
+
+-- ---- what an answer tells
+
+-- 0: the end, as booked; 11: the end, not as booked; 15: a byte left after 3,000 frames; else the frame there is refused with the number
+pub data Reason (b : ℕ) (rest : List ℕ) (c : Check) : Type 0 where
+  agreed : c .reply ≡ done → c .count ≡ b → rest ≡ [] → Reason b rest c
+  unbooked : c .reply ≡ notAsBooked → (c .count ≡ b → ⊥) → rest ≡ [] → Reason b rest c
+  passed-all : c .reply ≡ tooMany → c .count ≡ mostFrames → 0 < length rest → Reason b rest c
+  stopped-at : storedAt rest ≡ refused (c .reply) → (2 ≤ c .reply) × (c .reply ≤ 7) → c .count < mostFrames → 0 < length rest → Reason b rest c
+
+pub record Checked (src : List ℕ) (b : ℕ) (c : Check) : Type 0 where
+  pub front : List ℕ
+  pub rest : List ℕ
+  pub whole : src ≡ front ++ rest
+  pub frames : Frames (c .count) front
+  pub place : length front ≡ c .place
+  pub few : c .count ≤ mostFrames
+  pub reason : Reason b rest c
+
+module _ (src : List ℕ) (b : ℕ) (w : Check) (t : Told mostFrames src w) where
+  same-front : (c : Check) → w .count ≡ c .count → w .place ≡ c .place → Reason b (t .rest) c → Checked src b c
+  same-front c k p r =
+      record {
+        front = t .front;
+        rest = t .rest;
+        whole = t .whole;
+        frames = subst (λ (n : ℕ). Frames n (t .front)) k (t .frames);
+        place = t .place ∙ p;
+        few = omega (arith, t .few);
+        reason = r;
+      }
+
+  checked-by : Stop mostFrames (t .rest) w → Checked src b (booked b w)
+  checked-by (ended e q) =
+      by-bool (eqb (w .count) b)
+      (λ u.
+      let k = eqb-true (w .count) b u in
+      subst (Checked src b) (sym (booked-done b w e k)) (same-front w refl refl (agreed e k q)))
+      (λ u.
+      let k = eqb-false (w .count) b u in
+      subst (Checked src b) (sym (booked-missed b w e k)) (same-front (record { reply = notAsBooked; count = w .count; place = w .place }) refl refl (unbooked refl k q)))
+  checked-by (passed e q h) =
+      subst (Checked src b) (sym (booked-other b w (λ z. omega arith))) (same-front w refl refl (passed-all e q h))
+  checked-by (met h l e) =
+      let f = refusal (t .rest) (w .reply) h e in
+      subst (Checked src b) (sym (booked-other b w (λ z. omega (arith, f .0)))) (same-front w refl refl (stopped-at e f l h))
+
+-- whatever the check answers: its count of sound frames stands in front of its place, and its number is given for its reason
+pub check-told : (src : List ℕ) (b : ℕ) → Checked src b (checkOf src b)
+unfolding checkOf
+check-told src b = let t = walk-told mostFrames src in checked-by src b (walk mostFrames src) t (t .stop)
+
+-- ---- what the check answers of frames
+
+module _ {k : ℕ} {s : List ℕ} (f : Frames k s) (b : ℕ) where
+  walk-all : k ≤ mostFrames → walk mostFrames s ≡ record { reply = done; count = k; place = length s }
+  walk-all h =
+      ap (walk mostFrames) (sym (append-nil s)) ∙ walk-frames mostFrames [] f h ∙ ap (ahead k (length s)) (walk-end (mostFrames - k) [] refl)
+      ∙ ahead-stopped k (length s) done
+
+  -- as many as booked and the end
+  pub all-booked : k ≤ mostFrames → k ≡ b → checkOf s b ≡ record { reply = done; count = k; place = length s }
+  unfolding checkOf
+  all-booked h e = ap (booked b) (walk-all h) ∙ booked-done b (record { reply = done; count = k; place = length s }) refl e
+
+  -- not as many
+  pub all-unbooked : k ≤ mostFrames → (k ≡ b → ⊥) → checkOf s b ≡ record { reply = notAsBooked; count = k; place = length s }
+  unfolding checkOf
+  all-unbooked h e = ap (booked b) (walk-all h) ∙ booked-missed b (record { reply = done; count = k; place = length s }) refl e
+
+  -- a refused frame behind them
+  pub refused-behind : (rest : List ℕ) (x : ℕ) → k < mostFrames → 0 < length rest → storedAt rest ≡ refused x
+      → checkOf (s ++ rest) b ≡ record { reply = x; count = k; place = length s }
+  unfolding checkOf
+  refused-behind rest x h l e =
+      let n = mostFrames - (k + 1) in
+      let q : mostFrames - k ≡ suc n = omega arith in
+      let y = refusal rest x l e in
+      ap (booked b) (walk-frames mostFrames rest f (omega arith) ∙ ap (λ (i : ℕ). ahead k (length s) (walk i rest)) q ∙ ap (ahead k (length s)) (walk-refused n rest l x e) ∙ ahead-stopped k (length s) x)
+      ∙ booked-other b (record { reply = x; count = k; place = length s }) (λ z. omega (arith, y .0))
+
+  -- a byte after 3,000: whatever it is
+  pub byte-behind : (rest : List ℕ) → k ≡ mostFrames → 0 < length rest → checkOf (s ++ rest) b ≡ record { reply = tooMany; count = mostFrames; place = length s }
+  unfolding checkOf
+  byte-behind rest e l =
+      let q : mostFrames - k ≡ 0 = omega arith in
+      ap (booked b) (walk-frames mostFrames rest f (omega arith) ∙ ap (λ (i : ℕ). ahead k (length s) (walk i rest)) q ∙ ap (ahead k (length s)) (walk-full rest l) ∙ ahead-stopped k (length s) tooMany
+      ∙ ap (λ (i : ℕ). record { reply = tooMany; count = i; place = length s }) e)
+      ∙ booked-other b (record { reply = tooMany; count = mostFrames; place = length s }) (λ z. omega arith)
