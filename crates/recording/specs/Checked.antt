@@ -1,18 +1,17 @@
 -- What the check answers, number by number: each exactly when 01 says so, with the true count and place.
 -- Assumes nothing.
 use mathlib.Core.Path.{_≡_, refl, sym, ap, _∙_, subst}
-use mathlib.Core.Bool.{Bool, true, false, cond}
-use mathlib.Core.List.{List, [], _∷_, _++_, append-nil}
+use mathlib.Core.List.{List, [], _++_, append-nil}
 use mathlib.Core.Logic.{_⊎_, inl, inr}
-use Prim.Native.Nat.{ℕ, zero, suc, _+_, _-_, _≤_, _<_}
+use Prim.Native.Nat.{ℕ, suc, _+_, _-_, _≤_, _<_}
 use native.Mathlib.Omega.{arith}
 use lib.Dec.{eqb}
 use lib.ListN.{length}
 use borrow.Author.Tests.{eq-eqb, ne-eqb, eqb-true, eqb-false}
 use Rattle.ground.specs.Cases.{by-bool}
 use Rattle.ground.specs.Replies.{done, noByte, shortRoom, notAsBooked, noData, tooMany}
-use Rattle.frame.specs.Answers.{Outcome, refused}
-use Rattle.recording.specs.Walk.{storedAt, stopped, ahead, ahead-stopped, walk, booked, mostFrames, checkOf, Fits, stored-fits, walk-end, walk-full, walk-refused}
+use Rattle.frame.specs.Answers.{refused}
+use Rattle.recording.specs.Walk.{storedAt, ahead, ahead-stopped, walk, booked, mostFrames, checkOf, Fits, stored-fits, walk-end, walk-full, walk-refused}
 use Rattle.recording.specs.Frames.{Frames}
 use Rattle.recording.specs.Told.{Stop, ended, passed, met, Told, walk-told, walk-frames}
 use Rattle.recording.specs.declared.answer.Check.{Check}
@@ -124,3 +123,62 @@ module _ {k : ℕ} {s : List ℕ} (f : Frames k s) (b : ℕ) where
       ap (booked b) (walk-frames mostFrames rest f (omega arith) ∙ ap (λ (i : ℕ). ahead k (length s) (walk i rest)) q ∙ ap (ahead k (length s)) (walk-full rest l) ∙ ahead-stopped k (length s) tooMany
       ∙ ap (λ (i : ℕ). record { reply = tooMany; count = i; place = length s }) e)
       ∙ booked-other b (record { reply = tooMany; count = mostFrames; place = length s }) (λ z. omega arith)
+
+-- ---- each number exactly when
+
+all-there : (src front rest : List ℕ) (k : ℕ) → src ≡ front ++ rest → rest ≡ [] → Frames k front → Frames k src
+all-there src front rest k e q f = subst (Frames k) (sym (e ∙ ap (λ (r : List ℕ). front ++ r) q ∙ append-nil front)) f
+
+-- 0: as many frames as booked, at most 3,000, and nothing else
+pub check-whole : (src : List ℕ) (b : ℕ)
+    → (checkOf src b .reply ≡ done → Frames b src × (b ≤ mostFrames))
+    × (Frames b src → b ≤ mostFrames → checkOf src b .reply ≡ done)
+check-whole src b = (λ e. go (t .reason) e, λ f h. ap (λ (c : Check). c .reply) (all-booked f b h refl))
+  where
+    t : Checked src b (checkOf src b)
+    t = check-told src b
+
+    go : Reason b (t .rest) (checkOf src b) → checkOf src b .reply ≡ done → Frames b src × (b ≤ mostFrames)
+    go (agreed r k q) e = (subst (λ (n : ℕ). Frames n src) k (all-there src (t .front) (t .rest) _ (t .whole) q (t .frames)), omega (arith, t .few))
+    go (unbooked r k q) e = absurd (omega arith)
+    go (passed-all r k l) e = absurd (omega arith)
+    go (stopped-at r f k l) e = absurd (omega (arith, f .0))
+
+-- 11: some other number of frames, at most 3,000, and nothing else
+pub check-unbooked : (src : List ℕ) (b : ℕ)
+    → (checkOf src b .reply ≡ notAsBooked → (k : ℕ) × Frames k src × (k ≤ mostFrames) × (k ≡ b → ⊥))
+    × ((k : ℕ) → Frames k src → k ≤ mostFrames → (k ≡ b → ⊥) → checkOf src b .reply ≡ notAsBooked)
+check-unbooked src b = (λ e. go (t .reason) e, λ k f h n. ap (λ (c : Check). c .reply) (all-unbooked f b h n))
+  where
+    t : Checked src b (checkOf src b)
+    t = check-told src b
+
+    go : Reason b (t .rest) (checkOf src b) → checkOf src b .reply ≡ notAsBooked → (k : ℕ) × Frames k src × (k ≤ mostFrames) × (k ≡ b → ⊥)
+    go (agreed r k q) e = absurd (omega arith)
+    go (unbooked r k q) e = (checkOf src b .count, all-there src (t .front) (t .rest) _ (t .whole) q (t .frames), t .few, k)
+    go (passed-all r k l) e = absurd (omega arith)
+    go (stopped-at r f k l) e = absurd (omega (arith, f .1))
+
+-- 0, 2 to 7, 11 or 15
+abbrev pub Number : ℕ → Type 0
+Number x = (x ≡ done) ⊎ ((2 ≤ x) × (x ≤ 7)) ⊎ (x ≡ notAsBooked) ⊎ (x ≡ tooMany)
+
+pub check-replies : (src : List ℕ) (b : ℕ) → Number (checkOf src b .reply)
+check-replies src b = go (check-told src b .reason)
+  where
+    go : Reason b (check-told src b .rest) (checkOf src b) → Number (checkOf src b .reply)
+    go (agreed r k q) = inl r
+    go (stopped-at r f k l) = inr (inl f)
+    go (unbooked r k q) = inr (inr (inl r))
+    go (passed-all r k l) = inr (inr (inr r))
+
+never : (x : ℕ) → Number x → (x ≡ noByte → ⊥) × (x ≡ shortRoom → ⊥) × (x ≡ noData → ⊥)
+never x (inl e) = (λ z. omega arith, λ z. omega arith, λ z. omega arith)
+never x (inr (inl e)) = (λ z. omega arith, λ z. omega arith, λ z. omega arith)
+never x (inr (inr (inl e))) = (λ z. omega arith, λ z. omega arith, λ z. omega arith)
+never x (inr (inr (inr e))) = (λ z. omega arith, λ z. omega arith, λ z. omega arith)
+
+-- never 1: it reads only where a byte is; never 10: it brings its own room; never 14: a frame of no data is sound
+pub check-never : (src : List ℕ) (b : ℕ)
+    → (checkOf src b .reply ≡ noByte → ⊥) × (checkOf src b .reply ≡ shortRoom → ⊥) × (checkOf src b .reply ≡ noData → ⊥)
+check-never src b = never (checkOf src b .reply) (check-replies src b)

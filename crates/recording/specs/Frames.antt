@@ -1,16 +1,15 @@
 -- Sound stored frames one after the other, and the walk over them.
 -- Assumes nothing.
-use mathlib.Core.Path.{_≡_, refl, sym, ap, ap₂, _∙_, subst}
-use mathlib.Core.Bool.{Bool, true, false, cond}
-use mathlib.Core.List.{List, [], _∷_, _++_, append-assoc, append-nil}
+use mathlib.Core.Path.{_≡_, refl, sym, ap, _∙_}
+use mathlib.Core.List.{List, [], _∷_, _++_}
 use Prim.Native.Nat.{ℕ, zero, suc, _+_, _-_, _*_, _≤_, _<_}
 use native.Mathlib.Omega.{arith}
 use lib.Dec.{ltb}
 use lib.ListN.{length, getD, take, drop, length-append, length-drop, take-append-drop}
-use lib.Seq.{take-append-le, drop-append-le, drop-at, length-take-le}
+use lib.Seq.{take-append-le, drop-append-le, length-take-le}
 use borrow.Author.Tests.{ltb-true, ltb-false}
 use Rattle.ground.specs.Cases.{by-bool}
-use Rattle.ground.specs.Replies.{done, cut, tooMany}
+use Rattle.ground.specs.Replies.{cut}
 use Rattle.bits.specs.Bits.{bitsOf}
 use Rattle.bits.specs.Codings.{Answer, got, no}
 use Rattle.prefix.specs.Sizes.{lengthBytes, modeBytes, a2-between}
@@ -19,10 +18,9 @@ use Rattle.prefix.specs.declared.Prefix.{Prefix}
 use Rattle.prefix.specs.declared.Prefix.the-variants.{Data, NoData, NoByte, Marked, Reserved}
 use Rattle.prefix.specs.declared.Length.{Length}
 use Rattle.frame.specs.Layout.{Frame, frame}
-use Rattle.frame.specs.Answers.{Outcome, refused, empty, sound, outcome, readBody, bodyOf, started}
+use Rattle.frame.specs.Answers.{refused, empty, sound, outcome, readBody, bodyOf, started}
 use Rattle.frame.specs.Reads.{data-cut, data-whole}
-use Rattle.recording.specs.Walk.{storedAt, stopped, ahead, ahead-none, ahead-ahead, ahead-stopped, walk, stored-started, walk-end, walk-full, walk-refused, walk-empty, walk-sound}
-use Rattle.recording.specs.declared.answer.Check.{Check}
+use Rattle.recording.specs.Walk.{storedAt, stored-started}
 
 -- exactly one sound stored frame: a byte that says no data, or a prefix byte and the body of its mode
 pub data Stored (f : List ℕ) : Type 0 where
@@ -101,10 +99,6 @@ bare-says s e = started-bare s (prefixOf s) refl (sym (stored-started s) ∙ e)
 
 -- ---- a stored frame followed by anything
 
-some-said : (s : List ℕ) → (prefixOf s ≡ NoByte → ⊥) → 0 < length s
-some-said [] h = absurd (h (read-none [] refl))
-some-said (b ∷ s) h = omega arith
-
 -- bytes past those that the prefix byte says are not looked at
 front-data : (f rest : List ℕ) (l : Length) → lengthBytes (l .0) < length f → started (Data l) (f ++ rest) ≡ started (Data l) f
 front-data f rest l h =
@@ -166,7 +160,8 @@ first-bare s e = go s (bare-says s e)
   where
     go : (t : List ℕ) → prefixOf t ≡ NoData → (0 < length t) × (storedAt (take 1 t) ≡ empty) × (length (take 1 t) ≡ 1)
     go [] q = absurd (let c = sym (read-none [] refl) ∙ q in let z : _≡_ {A = ℕ} 0 1 = cc in omega arith)
-    go (b ∷ t) q =
-        (omega arith,
-        stored-started (b ∷ []) ∙ ap (λ (z : Prefix). started z (b ∷ [])) (same-prefix (b ∷ []) (b ∷ t) (omega arith) (omega arith) refl ∙ q),
-        refl)
+    go (b ∷ t) q = (
+      omega arith,
+      stored-started (b ∷ []) ∙ ap (λ (z : Prefix). started z (b ∷ [])) (same-prefix (b ∷ []) (b ∷ t) (omega arith) (omega arith) refl ∙ q),
+      refl,
+    )

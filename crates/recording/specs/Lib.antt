@@ -3,3 +3,5 @@ pub mod Turns
 pub mod Frames
 pub mod Told
 pub mod Checked
+pub mod CutReport
+pub mod Stars

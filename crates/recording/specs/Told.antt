@@ -1,21 +1,15 @@
 -- What an answer of the check tells, and what it answers of frames: every count is a count of sound frames that are there.
 -- Assumes nothing.
 use mathlib.Core.Path.{_≡_, refl, sym, ap, ap₂, _∙_, subst}
-use mathlib.Core.Bool.{Bool, true, false, cond}
-use mathlib.Core.List.{List, [], _∷_, _++_, append-assoc, append-nil}
-use mathlib.Core.Logic.{_⊎_, inl, inr, ⊎-elim}
+use mathlib.Core.List.{List, [], _∷_, _++_, append-assoc}
 use Prim.Native.Nat.{ℕ, zero, suc, _+_, _-_, _≤_, _<_}
 use native.Mathlib.Omega.{arith}
-use lib.Dec.{eqb}
 use lib.ListN.{length, take, drop, length-append, take-append-drop}
 use lib.Seq.{drop-at, length-take-le}
-use borrow.Author.Tests.{eq-eqb, ne-eqb, eqb-true, eqb-false}
-use Rattle.ground.specs.Cases.{by-bool}
-use Rattle.ground.specs.Replies.{done, notAsBooked, tooMany}
+use Rattle.ground.specs.Replies.{done, tooMany}
 use Rattle.prefix.specs.Sizes.{modeBytes}
-use Rattle.frame.specs.Layout.{Frame}
 use Rattle.frame.specs.Answers.{Outcome, refused, empty, sound}
-use Rattle.recording.specs.Walk.{storedAt, stopped, ahead, ahead-none, ahead-ahead, ahead-stopped, walk, booked, mostFrames, checkOf, Fits, stored-fits, walk-end, walk-full, walk-refused, walk-empty, walk-sound}
+use Rattle.recording.specs.Walk.{storedAt, stopped, ahead, ahead-none, ahead-ahead, ahead-stopped, walk, Fits, stored-fits, walk-end, walk-full, walk-refused, walk-empty, walk-sound}
 use Rattle.recording.specs.Frames.{Stored, bare, full, Frames, none, more, stored-front, first-sound, first-bare}
 use Rattle.recording.specs.declared.answer.Check.{Check}
 
@@ -101,5 +95,5 @@ walk-told (suc n) (b ∷ s) =
 pub one-count : {j k : ℕ} {s : List ℕ} → Frames j s → Frames k s → j ≡ k
 one-count {j} {k} {s} a b =
     let w : (i : ℕ) → Frames i s → i ≤ j + k → walk (j + k) (s ++ []) .count ≡ i =
-        λ i f h. ap (λ (c : Check). c .count) (walk-frames (j + k) [] f h ∙ ap (ahead i (length s)) (walk-end (j + k - i) [] refl) ∙ ahead-stopped i (length s) done) in
+    λ i f h. ap (λ (c : Check). c .count) (walk-frames (j + k) [] f h ∙ ap (ahead i (length s)) (walk-end (j + k - i) [] refl) ∙ ahead-stopped i (length s) done) in
     sym (w j a (omega arith)) ∙ w k b (omega arith)

@@ -1,21 +1,17 @@
 -- The turns of the check's loop: so many sound frames of so many bytes in front of the walk that is left.
 -- Assumes nothing.
 use mathlib.Core.Path.{_≡_, refl, sym, ap, ap₂, _∙_}
-use mathlib.Core.Bool.{Bool, true, false, cond}
-use mathlib.Core.List.{List, [], _∷_}
-use Prim.Native.Nat.{ℕ, zero, suc, _+_, _-_, _≤_, _<_}
+use mathlib.Core.Bool.{Bool, true, false}
+use mathlib.Core.List.{List}
+use Prim.Native.Nat.{ℕ, suc, _+_, _-_, _≤_, _<_}
 use native.Mathlib.Omega.{arith}
-use lib.Dec.{eqb}
 use lib.ListN.{length, take, drop, length-drop}
 use lib.Seq.{take-all, drop-drop}
 use borrow.Author.Tests.{eq-eqb, ne-eqb}
-use Rattle.ground.specs.Cases.{by-bool}
 use Rattle.ground.specs.Replies.{done, notAsBooked, noData, tooMany}
-use Rattle.prefix.specs.Sizes.{modeBytes}
 use Rattle.frame.specs.Answers.{Outcome, refused, empty, sound, readAnswer, readingOf}
 use Rattle.frame.specs.declared.Reading.{Reading}
 use Rattle.recording.specs.Walk.{storedAt, stopped, ahead, ahead-none, ahead-ahead, ahead-stopped, walk, booked, mostFrames, checkOf, isSound, Fits, stored-fits, walk-end, walk-full, walk-refused, walk-empty, walk-sound}
-use Rattle.recording.specs.declared.answer.Check.{Check}
 
 -- ---- one frame
 
