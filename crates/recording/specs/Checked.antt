@@ -11,7 +11,7 @@ use borrow.Author.Tests.{eq-eqb, ne-eqb, eqb-true, eqb-false}
 use Rattle.ground.specs.Cases.{by-bool}
 use Rattle.ground.specs.Replies.{done, noByte, shortRoom, notAsBooked, noData, tooMany}
 use Rattle.frame.specs.Answers.{refused}
-use Rattle.recording.specs.Walk.{storedAt, ahead, ahead-stopped, walk, booked, mostFrames, checkOf, Fits, stored-fits, walk-end, walk-full, walk-refused}
+use Rattle.recording.specs.Walk.{storedAt, madeCheck, ahead, ahead-stopped, walk, booked, mostFrames, checkOf, Fits, stored-fits, walk-end, walk-full, walk-refused}
 use Rattle.recording.specs.Frames.{Frames}
 use Rattle.recording.specs.Told.{Stop, ended, passed, met, Told, walk-told, walk-frames}
 use Rattle.recording.specs.declared.answer.Check.{Check}
@@ -74,7 +74,7 @@ module _ (src : List ℕ) (b : ℕ) (w : Check) (t : Told mostFrames src w) wher
       subst (Checked src b) (sym (booked-done b w e k)) (same-front w refl refl (agreed e k q)))
       (λ u.
       let k = eqb-false (w .count) b u in
-      subst (Checked src b) (sym (booked-missed b w e k)) (same-front (record { reply = notAsBooked; count = w .count; place = w .place }) refl refl (unbooked refl k q)))
+      subst (Checked src b) (sym (booked-missed b w e k)) (same-front (madeCheck notAsBooked (w .count) (w .place)) refl refl (unbooked refl k q)))
   checked-by (passed e q h) =
       subst (Checked src b) (sym (booked-other b w (λ z. omega arith))) (same-front w refl refl (passed-all e q h))
   checked-by (met h l e) =
@@ -89,7 +89,7 @@ check-told src b = let t = walk-told mostFrames src in checked-by src b (walk mo
 -- ---- what the check answers of frames
 
 module _ {k : ℕ} {s : List ℕ} (f : Frames k s) (b : ℕ) where
-  walk-all : k ≤ mostFrames → walk mostFrames s ≡ record { reply = done; count = k; place = length s }
+  walk-all : k ≤ mostFrames → walk mostFrames s ≡ madeCheck done k (length s)
   walk-all h =
       ap (walk mostFrames) (sym (append-nil s)) ∙ walk-frames mostFrames [] f h ∙ ap (ahead k (length s)) (walk-end (mostFrames - k) [] refl)
       ∙ ahead-stopped k (length s) done
@@ -97,12 +97,12 @@ module _ {k : ℕ} {s : List ℕ} (f : Frames k s) (b : ℕ) where
   -- as many as booked and the end
   pub all-booked : k ≤ mostFrames → k ≡ b → checkOf s b ≡ record { reply = done; count = k; place = length s }
   unfolding checkOf
-  all-booked h e = ap (booked b) (walk-all h) ∙ booked-done b (record { reply = done; count = k; place = length s }) refl e
+  all-booked h e = ap (booked b) (walk-all h) ∙ booked-done b (madeCheck done k (length s)) refl e
 
   -- not as many
   pub all-unbooked : k ≤ mostFrames → (k ≡ b → ⊥) → checkOf s b ≡ record { reply = notAsBooked; count = k; place = length s }
   unfolding checkOf
-  all-unbooked h e = ap (booked b) (walk-all h) ∙ booked-missed b (record { reply = done; count = k; place = length s }) refl e
+  all-unbooked h e = ap (booked b) (walk-all h) ∙ booked-missed b (madeCheck done k (length s)) refl e
 
   -- a refused frame behind them
   pub refused-behind : (rest : List ℕ) (x : ℕ) → k < mostFrames → 0 < length rest → storedAt rest ≡ refused x
@@ -113,7 +113,7 @@ module _ {k : ℕ} {s : List ℕ} (f : Frames k s) (b : ℕ) where
       let q : mostFrames - k ≡ suc n = omega arith in
       let y = refusal rest x l e in
       ap (booked b) (walk-frames mostFrames rest f (omega arith) ∙ ap (λ (i : ℕ). ahead k (length s) (walk i rest)) q ∙ ap (ahead k (length s)) (walk-refused n rest l x e) ∙ ahead-stopped k (length s) x)
-      ∙ booked-other b (record { reply = x; count = k; place = length s }) (λ z. omega (arith, y .0))
+      ∙ booked-other b (madeCheck x k (length s)) (λ z. omega (arith, y .0))
 
   -- a byte after 3,000: whatever it is
   pub byte-behind : (rest : List ℕ) → k ≡ mostFrames → 0 < length rest → checkOf (s ++ rest) b ≡ record { reply = tooMany; count = mostFrames; place = length s }
@@ -121,8 +121,8 @@ module _ {k : ℕ} {s : List ℕ} (f : Frames k s) (b : ℕ) where
   byte-behind rest e l =
       let q : mostFrames - k ≡ 0 = omega arith in
       ap (booked b) (walk-frames mostFrames rest f (omega arith) ∙ ap (λ (i : ℕ). ahead k (length s) (walk i rest)) q ∙ ap (ahead k (length s)) (walk-full rest l) ∙ ahead-stopped k (length s) tooMany
-      ∙ ap (λ (i : ℕ). record { reply = tooMany; count = i; place = length s }) e)
-      ∙ booked-other b (record { reply = tooMany; count = mostFrames; place = length s }) (λ z. omega arith)
+      ∙ ap (λ (i : ℕ). madeCheck tooMany i (length s)) e)
+      ∙ booked-other b (madeCheck tooMany mostFrames (length s)) (λ z. omega arith)
 
 -- ---- each number exactly when
 

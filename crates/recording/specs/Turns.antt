@@ -11,7 +11,7 @@ use borrow.Author.Tests.{eq-eqb, ne-eqb}
 use Rattle.ground.specs.Replies.{done, notAsBooked, noData, tooMany}
 use Rattle.frame.specs.Answers.{Outcome, refused, empty, sound, readAnswer, readingOf}
 use Rattle.frame.specs.declared.Reading.{Reading}
-use Rattle.recording.specs.Walk.{storedAt, stopped, ahead, ahead-none, ahead-ahead, ahead-stopped, walk, booked, mostFrames, checkOf, isSound, Fits, stored-fits, walk-end, walk-full, walk-refused, walk-empty, walk-sound}
+use Rattle.recording.specs.Walk.{storedAt, madeCheck, stopped, ahead, ahead-none, ahead-ahead, ahead-stopped, walk, booked, mostFrames, checkOf, isSound, Fits, stored-fits, walk-end, walk-full, walk-refused, walk-empty, walk-sound}
 
 -- ---- one frame
 
@@ -55,18 +55,24 @@ pub record Passed (src : List ℕ) (at count : ℕ) : Type 0 where
   pub inside : at ≤ length src
   pub same : walk mostFrames src ≡ ahead count at (walk (mostFrames - count) (drop at src))
 
-pub passed-none : (src : List ℕ) → Passed src 0 0
-passed-none src = record { few = omega arith; inside = omega arith; same = sym (ahead-none (walk mostFrames src)) }
+pub passed-none : (src : List ℕ) (at count : ℕ) → at ≡ 0 → count ≡ 0 → Passed src at count
+passed-none src at count ea ec =
+    let w = walk mostFrames src in
+    record {
+      few = omega arith;
+      inside = omega arith;
+      same = sym (ahead-none w) ∙ ap₂ (λ (k n : ℕ). ahead k n (walk (mostFrames - k) (drop n src))) (sym ec) (sym ea);
+    }
 
 module _ (src : List ℕ) (at count : ℕ) (p : Passed src at count) where
   -- a walk that is left, as the answer
   answered : (n : ℕ) → mostFrames - count ≡ n → (x : ℕ) → walk n (drop at src) ≡ stopped x
-      → walk mostFrames src ≡ record { reply = x; count = count; place = at }
+      → walk mostFrames src ≡ madeCheck x count at
   answered n e x w =
       p .same ∙ ap (λ (k : ℕ). ahead count at (walk k (drop at src))) e ∙ ap (ahead count at) w
       ∙ ahead-stopped count at x
 
-  pub passed-full : (b : ℕ) → at < length src → count ≡ mostFrames → record { reply = tooMany; count = count; place = at } ≡ checkOf src b
+  pub passed-full : (b : ℕ) → at < length src → count ≡ mostFrames → madeCheck tooMany count at ≡ checkOf src b
   unfolding checkOf booked
   passed-full b h e = sym (ap (booked b) (answered 0 (omega arith) tooMany (walk-full (drop at src) (omega (arith, length-drop at src)))))
 
@@ -84,7 +90,7 @@ module _ (src : List ℕ) (at count : ℕ) (p : Passed src at count) where
     one-less : mostFrames - count ≡ suc (mostFrames - (count + 1))
     one-less = omega (arith, p .few)
 
-    pub passed-stop : (b : ℕ) → isSound (r .reply) ≡ false → record { reply = r .reply; count = count; place = at } ≡ checkOf src b
+    pub passed-stop : (b : ℕ) → isSound (r .reply) ≡ false → madeCheck (r .reply) count at ≡ checkOf src b
     unfolding checkOf booked
     passed-stop b q =
         let o = storedAt (drop at src) in
@@ -109,13 +115,13 @@ module _ (src : List ℕ) (at count : ℕ) (p : Passed src at count) where
         }
 
   module _ (h : length src ≤ at) where
-    pub passed-unbooked : (b : ℕ) → (count ≡ b → ⊥) → record { reply = notAsBooked; count = count; place = at } ≡ checkOf src b
+    pub passed-unbooked : (b : ℕ) → (count ≡ b → ⊥) → madeCheck notAsBooked count at ≡ checkOf src b
     unfolding checkOf booked
     passed-unbooked b q =
         sym (ap (booked b) (answered (mostFrames - count) refl done (walk-end (mostFrames - count) (drop at src) (omega (arith, length-drop at src))))
         ∙ rw (ne-eqb count b q))
 
-    pub passed-booked : (b : ℕ) → count ≡ b → record { reply = done; count = count; place = at } ≡ checkOf src b
+    pub passed-booked : (b : ℕ) → count ≡ b → madeCheck done count at ≡ checkOf src b
     unfolding checkOf booked
     passed-booked b q =
         sym (ap (booked b) (answered (mostFrames - count) refl done (walk-end (mostFrames - count) (drop at src) (omega (arith, length-drop at src))))

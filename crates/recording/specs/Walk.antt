@@ -27,13 +27,16 @@ use Rattle.recording.specs.declared.answer.Check.{Check}
 unfoldable pub storedAt : List ℕ → Outcome
 storedAt s = readAnswer s 800 320
 
+abbrev pub madeCheck : ℕ → ℕ → ℕ → Check
+madeCheck x k n = record { reply = x; count = k; place = n }
+
 -- a stop at the start
 abbrev pub stopped : ℕ → Check
-stopped x = record { reply = x; count = 0; place = 0 }
+stopped x = madeCheck x 0 0
 
 -- k sound frames, n bytes together, in front of a walk
 abbrev pub ahead : ℕ → ℕ → Check → Check
-ahead k n w = record { reply = w .reply; count = k + w .count; place = n + w .place }
+ahead k n w = madeCheck (w .reply) (k + w .count) (n + w .place)
 
 -- a refused frame stops; behind a sound one the part after it is handed on
 unfoldable pub onward : Outcome → (ℕ → Check) → Check
@@ -51,7 +54,7 @@ walk (suc n) (b ∷ s) = onward (storedAt (b ∷ s)) (λ k. walk n (drop k (b �
 -- at the end the count is held against the booking
 unfoldable pub booked : ℕ → Check → Check
 booked b w =
-    cond (eqb (w .reply) done) (cond (eqb (w .count) b) w (record { reply = notAsBooked; count = w .count; place = w .place })) w
+    cond (eqb (w .reply) done) (cond (eqb (w .count) b) w (madeCheck notAsBooked (w .count) (w .place))) w
 
 abbrev pub mostFrames : ℕ
 mostFrames = 3000
@@ -66,14 +69,14 @@ isSound x = cond (eqb x noData) true (eqb x done)
 -- ---- frames in front
 
 pub ahead-none : (w : Check) → ahead 0 0 w ≡ w
-ahead-none w = ap₂ (λ (k n : ℕ). record { reply = w .reply; count = k; place = n }) (zero-add (w .count)) (zero-add (w .place))
+ahead-none w = ap₂ (madeCheck (w .reply)) (zero-add (w .count)) (zero-add (w .place))
 
 pub ahead-ahead : (j m k n : ℕ) (w : Check) → ahead j m (ahead k n w) ≡ ahead (j + k) (m + n) w
 ahead-ahead j m k n w =
-    ap₂ (λ (c p : ℕ). record { reply = w .reply; count = c; place = p }) (sym (add-assoc j k (w .count))) (sym (add-assoc m n (w .place)))
+    ap₂ (madeCheck (w .reply)) (sym (add-assoc j k (w .count))) (sym (add-assoc m n (w .place)))
 
-pub ahead-stopped : (k n x : ℕ) → ahead k n (stopped x) ≡ record { reply = x; count = k; place = n }
-ahead-stopped k n x = ap₂ (λ (c p : ℕ). record { reply = x; count = c; place = p }) (add-zero k) (add-zero n)
+pub ahead-stopped : (k n x : ℕ) → ahead k n (stopped x) ≡ madeCheck x k n
+ahead-stopped k n x = ap₂ (madeCheck x) (add-zero k) (add-zero n)
 
 -- ---- the frame at the start
 

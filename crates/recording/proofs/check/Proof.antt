@@ -17,13 +17,16 @@ abbrev μ-loop : tie.MeasureT-loop
 μ-loop src booking codes₀ tail₀ at₀ count₀ codes tail at count = 3000 - count
 
 loop-holds : tie.Need-loop-holds Inv-loop μ-loop
-loop-holds c = (passed-none _, search needs, search needs)
+loop-holds c = (passed-none _ _ _ (omega arith) (omega arith), search needs, search needs)
+
+made-check-requires : tie.Need-made-check-requires Inv-loop μ-loop
+made-check-requires c κs = search needs
 
 returns : tie.Need-returns Inv-loop μ-loop
 returns c =
-    let l = c .before .before .loop in
-    let a = c .before .before .before .before .args in
-    passed-full (now (a .src)) (l .at) (l .count) (l .inv .0) (a .booking) (c .before .loop-test .taken) (c .if1 .taken)
+    let l = c .before .before .before .loop in
+    let a = c .before .before .before .before .before .args in
+    c .made-check .ensures ∙ passed-full (now (a .src)) (l .at) (l .count) (l .inv .0) (a .booking) (c .before .before .loop-test .taken) (omega arith)
 
 sub-read : tie.Need-sub-read Inv-loop μ-loop
 sub-read c = search needs
@@ -46,12 +49,18 @@ read-requires c κs = search needs
 is-sound-requires : tie.Need-is-sound-requires Inv-loop μ-loop
 is-sound-requires c κs = search needs
 
+made-check-requires-2 : tie.Need-made-check-requires-2 Inv-loop μ-loop
+made-check-requires-2 c κs = search needs
+
 returns-2 : tie.Need-returns-2 Inv-loop μ-loop
 returns-2 c =
-    let d = c .before .before .before .before in
-    let l = d .before .before .before .before .before .before .loop in
-    let a = d .before .before .before .before .before .before .before .before .args in
-    passed-stop (now (a .src)) (l .at) (l .count) (l .inv .0) (d .before .before .before .before .before .loop-test .taken) (d .before .before .before .before .if1 .left) (length (l .codes)) (length (l .tail)) (l .inv .1) (l .inv .2) (d .read .result) (d .read .ensures .0) (a .booking) (sym (c .before .is-sound .ensures) ∙ not-true _ (c .if2 .taken))
+    let d = c .before .before .before .before .before in
+    let i = d .before .before .before .before in
+    let l = i .before .before .loop in
+    let a = i .before .before .before .before .args in
+    c .made-check2 .ensures
+    ∙ passed-stop (now (a .src)) (l .at) (l .count) (l .inv .0) (i .before .loop-test .taken) (λ e. omega arith) _ _ (l .inv .1) (l .inv .2) (d .read .result) (d .read .ensures .0)
+    (a .booking) (sym (c .before .before .is-sound .ensures) ∙ not-true _ (c .before .if2 .taken))
 
 add-count : tie.Need-add-count Inv-loop μ-loop
 add-count c = search needs
@@ -62,25 +71,34 @@ loop-less c = search needs
 loop-again : tie.Need-loop-again Inv-loop μ-loop
 loop-again c =
     let d = c .before .before .before .before .before in
-    let l = d .before .before .before .before .before .before .loop in
-    let a = d .before .before .before .before .before .before .before .before .args in
-    (passed-more (now (a .src)) (l .at) (l .count) (l .inv .0) (d .before .before .before .before .before .loop-test .taken) (d .before .before .before .before .if1 .left) (length (l .codes)) (length (l .tail)) (l .inv .1) (l .inv .2) (d .read .result) (d .read .ensures .0) (sym (c .before .before .is-sound .ensures) ∙ not-false _ (c .before .if2 .left)), search needs, search needs)
+    let i = d .before .before .before .before in
+    let l = i .before .before .loop in
+    let a = i .before .before .before .before .args in
+    let p = passed-more (now (a .src)) (l .at) (l .count) (l .inv .0) (i .before .loop-test .taken) (λ e. omega arith) _ _ (l .inv .1) (l .inv .2) (d .read .result) (d .read .ensures .0)
+    (sym (c .before .before .is-sound .ensures) ∙ not-false _ (c .before .if2 .left)) in
+    (p, search needs, search needs)
 
 -- the next place is inside the source
 add-at : tie.Need-add-at Inv-loop μ-loop
 add-at c = omega (arith, loop-again c .0 .inside)
 
+made-check-requires-3 : tie.Need-made-check-requires-3 Inv-loop μ-loop
+made-check-requires-3 c κs = search needs
+
 returns-3 : tie.Need-returns-3 Inv-loop μ-loop
 returns-3 c =
-    let l = c .before .before .loop in
-    let a = c .before .before .before .before .args in
-    passed-unbooked (now (a .src)) (l .at) (l .count) (l .inv .0) (c .before .loop-test .left) (a .booking) (c .if3 .taken)
+    let l = c .before .before .before .loop in
+    let a = c .before .before .before .before .before .args in
+    c .made-check3 .ensures ∙ passed-unbooked (now (a .src)) (l .at) (l .count) (l .inv .0) (c .before .before .loop-test .left) (a .booking) (λ e. c .before .if3 .taken (omega arith))
+
+made-check-requires-4 : tie.Need-made-check-requires-4 Inv-loop μ-loop
+made-check-requires-4 c κs = search needs
 
 returns-4 : tie.Need-returns-4 Inv-loop μ-loop
 returns-4 c =
-    let l = c .before .before .loop in
-    let a = c .before .before .before .before .args in
-    passed-booked (now (a .src)) (l .at) (l .count) (l .inv .0) (c .before .loop-test .left) (a .booking) (c .if3 .left)
+    let l = c .before .before .before .loop in
+    let a = c .before .before .before .before .before .args in
+    c .made-check4 .ensures ∙ passed-booked (now (a .src)) (l .at) (l .count) (l .inv .0) (c .before .before .loop-test .left) (a .booking) (omega arith)
 
 pub check-spec : {M : Type 1} → statement M
 check-spec =
@@ -89,6 +107,7 @@ check-spec =
     Inv-loop
     μ-loop
     loop-holds
+    made-check-requires
     returns
     sub-read
     part-read-start
@@ -97,10 +116,13 @@ check-spec =
     slice-aggregate-read-2
     read-requires
     is-sound-requires
+    made-check-requires-2
     returns-2
     add-at
     add-count
     loop-less
     loop-again
+    made-check-requires-3
     returns-3
+    made-check-requires-4
     returns-4)
