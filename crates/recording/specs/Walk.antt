@@ -1,0 +1,161 @@
+-- The file check (01, File check): frame after frame from the start, each read in full, until no byte is left, a frame is refused, or 3,000 are passed.
+-- Assumes nothing.
+use mathlib.Core.Path.{_≡_, refl, sym, ap, ap₂, _∙_, subst}
+use mathlib.Core.Bool.{Bool, true, false, cond}
+use mathlib.Core.List.{List, [], _∷_}
+use Prim.Native.Nat.{ℕ, zero, suc, _+_, _-_, _*_, _≤_, _<_}
+use native.Mathlib.Nat.{zero-add, add-zero, add-assoc}
+use native.Mathlib.Omega.{arith}
+use lib.Dec.{eqb, ltb}
+use lib.ListN.{length, getD, drop}
+use borrow.Author.Tests.{ltb-true, ltb-false}
+use Rattle.ground.specs.Cases.{by-bool}
+use Rattle.ground.specs.Replies.{done, notAsBooked, noData, tooMany}
+use Rattle.bits.specs.Bits.{bitsOf}
+use Rattle.bits.specs.Codings.{Answer, got, no}
+use Rattle.bits.specs.declared.Refusal.the-variants.{Outside, Missing, Past}
+use Rattle.prefix.specs.Sizes.{Size, noBody, notGiven, sized, tableA2, lengthBytes, modeBytes, a2-between}
+use Rattle.prefix.specs.Prefix.{prefixOf, prefixByte, fieldF, fieldL, said, read-some, prefix-data}
+use Rattle.prefix.specs.declared.Prefix.{Prefix}
+use Rattle.prefix.specs.declared.Prefix.the-variants.{Data, NoData, NoByte, Marked, Reserved}
+use Rattle.frame.specs.Layout.{Frame, frame}
+use Rattle.frame.specs.Answers.{Outcome, refused, empty, sound, outcome, readBody, bodyOf, started, readAnswer}
+use Rattle.frame.specs.Reads.{read-started, data-cut, data-whole}
+use Rattle.recording.specs.declared.answer.Check.{Check}
+
+-- the frame at the start, read with the check's own room
+unfoldable pub storedAt : List ℕ → Outcome
+storedAt s = readAnswer s 800 320
+
+abbrev pub madeCheck : ℕ → ℕ → ℕ → Check
+madeCheck x k n = record { reply = x; count = k; place = n }
+
+-- a stop at the start
+abbrev pub stopped : ℕ → Check
+stopped x = madeCheck x 0 0
+
+-- k sound frames, n bytes together, in front of a walk
+abbrev pub ahead : ℕ → ℕ → Check → Check
+ahead k n w = madeCheck (w .reply) (k + w .count) (n + w .place)
+
+-- a refused frame stops; behind a sound one the part after it is handed on
+unfoldable pub onward : Outcome → (ℕ → Check) → Check
+onward (refused x) rest = stopped x
+onward empty rest = ahead 1 1 (rest 1)
+onward (sound mode x) rest = ahead 1 (modeBytes mode + 1) (rest (modeBytes mode + 1))
+
+-- the walk with so many frames still allowed
+unfoldable pub walk : ℕ → List ℕ → Check
+walk zero [] = stopped done
+walk zero (b ∷ s) = stopped tooMany
+walk (suc n) [] = stopped done
+walk (suc n) (b ∷ s) = onward (storedAt (b ∷ s)) (λ k. walk n (drop k (b ∷ s)))
+
+-- at the end the count is held against the booking
+unfoldable pub booked : ℕ → Check → Check
+booked b w =
+    cond (eqb (w .reply) done) (cond (eqb (w .count) b) w (madeCheck notAsBooked (w .count) (w .place))) w
+
+abbrev pub mostFrames : ℕ
+mostFrames = 3000
+
+unfoldable pub checkOf : List ℕ → ℕ → Check
+checkOf src booking = booked booking (walk mostFrames src)
+
+-- 0 and 14 count
+unfoldable pub isSound : ℕ → Bool
+isSound x = cond (eqb x noData) true (eqb x done)
+
+-- ---- frames in front
+
+pub ahead-none : (w : Check) → ahead 0 0 w ≡ w
+ahead-none w = ap₂ (madeCheck (w .reply)) (zero-add (w .count)) (zero-add (w .place))
+
+pub ahead-ahead : (j m k n : ℕ) (w : Check) → ahead j m (ahead k n w) ≡ ahead (j + k) (m + n) w
+ahead-ahead j m k n w =
+    ap₂ (madeCheck (w .reply)) (sym (add-assoc j k (w .count))) (sym (add-assoc m n (w .place)))
+
+pub ahead-stopped : (k n x : ℕ) → ahead k n (stopped x) ≡ madeCheck x k n
+ahead-stopped k n x = ap₂ (madeCheck x) (add-zero k) (add-zero n)
+
+-- ---- the frame at the start
+
+pub stored-started : (s : List ℕ) → storedAt s ≡ started (prefixOf s) s
+unfolding storedAt
+stored-started s = read-started s 800 320 (omega arith) (omega arith) (prefixOf s) refl
+
+-- where there is a byte, a frame is refused with 2 to 7, and a sound one has its bytes
+abbrev pub Fits : List ℕ → Outcome → Type 0
+Fits s (refused x) = (2 ≤ x) × (x ≤ 7)
+Fits s empty = 0 < length s
+Fits s (sound mode x) = (mode < 20) × (modeBytes mode < length s)
+
+some-byte : (marked : Bool) (z : Size) (l : ℕ) → cond marked Marked (said z l) ≡ NoByte → ⊥
+some-byte true z l e = let q : _≡_ {A = ℕ} 0 1 = cc in omega arith
+some-byte false noBody l e = let q : _≡_ {A = ℕ} 0 1 = cc in omega arith
+some-byte false notGiven l e = let q : _≡_ {A = ℕ} 0 1 = cc in omega arith
+some-byte false (sized n) l e = let q : _≡_ {A = ℕ} 0 1 = cc in omega arith
+
+outcome-fits : (s : List ℕ) (m : ℕ) (a : Answer Frame) → m < 20 → modeBytes m < length s → Fits s (outcome m a)
+outcome-fits s m (got x r) h l = (h, l)
+outcome-fits s m (no Outside) h l = (omega arith, omega arith)
+outcome-fits s m (no Missing) h l = (omega arith, omega arith)
+outcome-fits s m (no Past) h l = (omega arith, omega arith)
+
+body-fits : (s : List ℕ) (m : ℕ) (body : List ℕ) → m < 20 → modeBytes m < length s → Fits s (readBody m body)
+unfolding readBody
+body-fits s m body h l = outcome-fits s m (frame (length body * 8) .read (bitsOf body)) h l
+
+started-fits : (s : List ℕ) (p : Prefix) → 0 < length s → prefixOf s ≡ p → Fits s (started p s)
+unfolding prefixByte
+started-fits s NoByte h q =
+    let b = getD s 0 0 in
+    absurd (some-byte (eqb (fieldF b) 1) (tableA2 (fieldL b)) (fieldL b) (sym (read-some s h) ∙ q))
+started-fits s Marked h q = (omega arith, omega arith)
+started-fits s Reserved h q = (omega arith, omega arith)
+started-fits s NoData h q = h
+started-fits s (Data f) h q =
+    let d = prefix-data s f q in
+    let m = f .0 - 8 in
+    let n = modeBytes m in
+    let e : n ≡ lengthBytes (f .0) = sym (a2-between (f .0) (d .0) (d .1) .0) in
+    by-bool (ltb n (length s))
+    (λ t.
+    let l = ltb-true n (length s) t in
+    subst (Fits s) (sym (data-whole s f n e l)) (body-fits s m (bodyOf n s) (omega (arith, d .1)) l))
+    (λ t. subst (Fits s) (sym (data-cut s f n e (ltb-false n (length s) t))) (omega arith, omega arith))
+
+pub stored-fits : (s : List ℕ) → 0 < length s → Fits s (storedAt s)
+stored-fits s h = subst (Fits s) (sym (stored-started s)) (started-fits s (prefixOf s) h refl)
+
+-- ---- the walk by its cases
+
+pub walk-end : (n : ℕ) (s : List ℕ) → length s ≡ 0 → walk n s ≡ stopped done
+unfolding walk
+walk-end zero [] h = refl
+walk-end (suc n) [] h = refl
+walk-end n (b ∷ s) h = absurd (omega arith)
+
+pub walk-full : (s : List ℕ) → 0 < length s → walk 0 s ≡ stopped tooMany
+unfolding walk
+walk-full [] h = absurd (omega arith)
+walk-full (b ∷ s) h = refl
+
+walk-onward : (n : ℕ) (s : List ℕ) → 0 < length s → (o : Outcome) → storedAt s ≡ o → walk (suc n) s ≡ onward o (λ k. walk n (drop k s))
+unfolding walk
+walk-onward n [] h o e = absurd (omega arith)
+walk-onward n (b ∷ s) h o e = ap (λ (z : Outcome). onward z (λ k. walk n (drop k (b ∷ s)))) e
+
+module _ (n : ℕ) (s : List ℕ) (h : 0 < length s) where
+  pub walk-refused : (x : ℕ) → storedAt s ≡ refused x → walk (suc n) s ≡ stopped x
+  unfolding onward
+  walk-refused x e = walk-onward n s h (refused x) e
+
+  pub walk-empty : storedAt s ≡ empty → walk (suc n) s ≡ ahead 1 1 (walk n (drop 1 s))
+  unfolding onward
+  walk-empty e = walk-onward n s h empty e
+
+  pub walk-sound : (mode : ℕ) (x : Frame) → storedAt s ≡ sound mode x
+      → walk (suc n) s ≡ ahead 1 (modeBytes mode + 1) (walk n (drop (modeBytes mode + 1) s))
+  unfolding onward
+  walk-sound mode x e = walk-onward n s h (sound mode x) e
