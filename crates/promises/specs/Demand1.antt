@@ -3,10 +3,12 @@
 -- That no call faults is what the proof of each function says, and none of these calls asks anything of its caller. Here is the rest: the numbers of
 -- 01's table that each call can answer, and what a refusal leaves.
 -- Assumes nothing.
-use mathlib.Core.Path.{_≡_, refl, sym, ap, _∙_}
+use mathlib.Core.Path.{_≡_, refl, sym, ap, _∙_, subst}
 use mathlib.Core.Bool.{Bool, true, false, cond, _&&_}
 use mathlib.Core.List.{List, [], _∷_, map}
-use Prim.Native.Nat.{ℕ, _+_, _-_, _*_, _^_}
+use mathlib.Core.Logic.{_⊎_, inl, inr}
+use Prim.Native.Nat.{ℕ, zero, suc, _+_, _-_, _*_, _^_, _≤_}
+use native.Mathlib.Omega.{arith}
 use lib.Dec.{T, eqb, ltb, leb}
 use lib.IntN.{ℤ}
 use lib.ListN.{length, getD, take}
@@ -47,6 +49,8 @@ use Rattle.writer.specs.Empty.{emptyReply, emptyAfter}
 use Rattle.writer.specs.Writes.{firstOf, kindsFor, budgetFor, earlyReply, lateReply, writeReply, outAfter}
 use Rattle.writer.specs.Choice.{plain, startReply, choiceReply, choiceOf as flagC}
 use Rattle.writer.specs.declared.Writing.{Writing as Written}
+use Rattle.recording.specs.Walk.{checkOf}
+use Rattle.recording.specs.Checked.{Number, check-replies}
 use Rattle.promises.specs.Numbers.{among, OneOf, picked}
 
 -- ---- reading a frame: 0, 1, 2, 3, 4, 5, 6, 7, 10, 14
@@ -154,6 +158,33 @@ flag-c-number r codes =
     let x = startReply r (length codes) in
     picked (λ (c : Choice). OneOf choosing (c .reply)) (eqb (choiceReply r codes) 0) _ _ tt
     (picked (OneOf choosing) (eqb x 0) _ x (picked (OneOf choosing) (fits (map coding (kindsFor (plain r))) (take 800 codes)) done wideCode tt tt) (start-number r (length codes)))
+
+-- ---- a recording: 0, 2, 3, 4, 5, 6, 7, 11, 15
+
+abbrev checking : List ℕ
+checking = 0 ∷ 2 ∷ 3 ∷ 4 ∷ 5 ∷ 6 ∷ 7 ∷ 11 ∷ 15 ∷ []
+
+two-to-seven : (x : ℕ) → 2 ≤ x → x ≤ 7 → OneOf checking x
+unfolding among
+two-to-seven zero l h = absurd (omega arith)
+two-to-seven (suc zero) l h = absurd (omega arith)
+two-to-seven (suc (suc zero)) l h = tt
+two-to-seven (suc (suc (suc zero))) l h = tt
+two-to-seven (suc (suc (suc (suc zero)))) l h = tt
+two-to-seven (suc (suc (suc (suc (suc zero))))) l h = tt
+two-to-seven (suc (suc (suc (suc (suc (suc zero)))))) l h = tt
+two-to-seven (suc (suc (suc (suc (suc (suc (suc zero))))))) l h = tt
+two-to-seven (suc (suc (suc (suc (suc (suc (suc (suc x)))))))) l h = absurd (omega arith)
+
+number-one : (x : ℕ) → Number x → OneOf checking x
+unfolding among
+number-one x (inl e) = subst (OneOf checking) (sym e) tt
+number-one x (inr (inl e)) = two-to-seven x (e .0) (e .1)
+number-one x (inr (inr (inl e))) = subst (OneOf checking) (sym e) tt
+number-one x (inr (inr (inr e))) = subst (OneOf checking) (sym e) tt
+
+pub check-number : (src : List ℕ) (booking : ℕ) → OneOf checking (checkOf src booking .reply)
+check-number src booking = number-one (checkOf src booking .reply) (check-replies src booking)
 
 -- ---- the prefix byte: read 0, 1, 2, 3, 14; written 0, 8
 

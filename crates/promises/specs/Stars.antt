@@ -1,16 +1,167 @@
--- The starred examples of 01, as one list with one claim.
+-- The starred examples of 01: one list, one claim.
 -- Assumes nothing.
-use mathlib.Core.Path.{_≡_, refl}
-use mathlib.Core.List.{List, [], _∷_}
+use mathlib.Core.Path.{_≡_, refl, sym, ap, _∙_}
+use mathlib.Core.Bool.{Bool, true, false}
+use mathlib.Core.List.{List, [], _∷_, _++_}
+use Prim.Native.Nat.{ℕ, _+_, _*_}
+use lib.IntN.{pos, negsuc}
+use lib.ListN.{length, take, drop, replicate}
+use Rattle.ground.specs.Replies.{done}
+use Rattle.bits.specs.Bits.{word, val, bytesOf}
+use Rattle.bits.specs.Codings.{wordOf}
+use Rattle.bits.specs.Codecs.{writeAll}
+use Rattle.words.specs.Tables.{coding, words, table16}
+use Rattle.prefix.specs.Sizes.{tableA2, lengthBytes, modeBytes, table22}
+use Rattle.prefix.specs.Prefix.{prefixOf, prefixByte, Reading, readingOf as prefixReading}
+use Rattle.prefix.specs.Stars as prefix
+use Rattle.norms.specs.Order.{sent}
+use Rattle.norms.specs.Steps.{numbers}
+use Rattle.norms.specs.Part.{normKinds, normBits}
+use Rattle.weights.specs.Weights.{weightsOf}
+use Rattle.weights.proofs.Examples as weights
+use Rattle.allotment.specs.Allotment.{sharesOf}
+use Rattle.allotment.proofs.Examples as allotment
+use Rattle.lattice.specs.Answers.{pointOf}
+use Rattle.lattice.specs.Stars as lattice
+use Rattle.frame.specs.Layout.{spare, wideIn, budgetOf}
+use Rattle.frame.specs.Answers.{readAnswer, readingOf, stoppedAt}
+use Rattle.writer.specs.Writes.{total, frameOf, bytesFor}
+use Rattle.writer.specs.Bodies.{bodyBits, body-is}
+use Rattle.frame.specs.declared.Record.{Record}
+use Rattle.recording.specs.Walk.{checkOf}
+use Rattle.recording.specs.Stars as recording
 
 -- all that stands in a list of claims
 abbrev pub All : List {1} (Type 0) → Type 0
 All [] = Unit {0}
 All (A ∷ As) = A × All As
 
-pub starred : List {1} (Type 0)
-starred = _≡_ {A = Unit {0}} tt tt ∷ []
+-- ---- what the examples speak of
+
+-- all indices 20
+abbrev pub twenties : List ℕ
+twenties = replicate 44 20
+
+-- stationary, FlagL 1, FlagC 0; FlagN as given
+abbrev pub flags : Bool → List Bool
+flags n = false ∷ true ∷ n ∷ false ∷ []
+
+-- with 80 bytes
+abbrev pub small : ℕ → ℕ → Record
+small noise bits =
+    record { mode = 0; transient = false; «flag_l» = true; «flag_n» = true; «flag_c» = false; norms = twenties; noise = noise; «tail_bits» = bits }
+
+-- x and y in the first two of eight places
+abbrev pub eight : {A : Type 0} → A → A → A → List A
+eight x y z = x ∷ y ∷ z ∷ z ∷ z ∷ z ∷ z ∷ z ∷ []
+
+-- ---- the list
+
+unfoldable pub starred : List {1} (Type 0)
+starred =
+    -- Prefix 20 alone: 4. 04: 3. 80: 2. 6C: L 27, 320 bytes. 70: 3
+    (readingOf (readAnswer (0x20 ∷ []) 800 320) ≡ stoppedAt 4 0)
+    ∷ (prefixReading (prefixOf (0x04 ∷ [])) ≡ record { reply = 3; field = 0; bytes = 0; next = 0 })
+    ∷ (prefixReading (prefixOf (0x80 ∷ [])) ≡ record { reply = 2; field = 0; bytes = 0; next = 0 })
+    ∷ (prefixReading (prefixOf (0x6C ∷ [])) ≡ record { reply = 0; field = 27; bytes = 320; next = 1 })
+    ∷ (prefixReading (prefixOf (0x70 ∷ [])) ≡ record { reply = 3; field = 0; bytes = 0; next = 0 })
+    -- File check of 00 20: one sound frame, reply 4 at place 1
+    ∷ ((booking : ℕ) → checkOf (0x00 ∷ 0x20 ∷ []) booking ≡ record { reply = 4; count = 1; place = 1 })
+    -- Stationary, 80 bytes, all indices 20, FlagN 0, FlagL 1: Ψ 414; rate 2 for band 0, 1 for 1–29, else 0; 6 left
+    ∷ (budgetOf 640 (flags false) twenties ≡ 414)
+    ∷ (sharesOf false (wideIn 640 true) twenties 414 ≡ record { reply = 0; rates = 2 ∷ replicate 29 1 ++ replicate 14 0; left = 6 })
+    -- Same, FlagN 1: Ψ 500; rate 1 for 0–33; 4 left. With FlagC 0 the body begins 6A 6D B6 DB 6D
+    ∷ (budgetOf 640 (flags true) twenties ≡ 500)
+    ∷ (sharesOf false (wideIn 640 true) twenties 500 ≡ record { reply = 0; rates = replicate 34 1 ++ replicate 10 0; left = 4 })
+    ∷ ((noise bits : ℕ) (codes tail : List ℕ) → take 5 (drop 1 (bytesFor (small noise bits) codes tail)) ≡ 0x6A ∷ 0x6D ∷ 0xB6 ∷ 0xDB ∷ 0x6D ∷ [])
+    -- Weights, stationary, index 0 in band 0, 20 elsewhere: 0, 12, 25, 38, 51, then 64
+    ∷ (weightsOf false (0 ∷ replicate 43 20) ≡ 0 ∷ 12 ∷ 25 ∷ 38 ∷ 51 ∷ replicate 39 64)
+    -- Rate 2, k1 = 1, 2, 3, others 0: points first 2, 4, −2, others 0. k2 = 3 alone: −1, −1, 0 …
+    ∷ (pointOf 2 (eight 1 0 0) ≡ record { reply = 0; at = eight (pos 2) (pos 0) (pos 0) })
+    ∷ (pointOf 2 (eight 2 0 0) ≡ record { reply = 0; at = eight (pos 4) (pos 0) (pos 0) })
+    ∷ (pointOf 2 (eight 3 0 0) ≡ record { reply = 0; at = eight (negsuc 1) (pos 0) (pos 0) })
+    ∷ (pointOf 2 (eight 0 3 0) ≡ record { reply = 0; at = eight (negsuc 0) (negsuc 0) (pos 0) })
+    ∷ []
+
+-- ---- those that no other page has
+
+prefix-20 : readingOf (readAnswer (0x20 ∷ []) 800 320) ≡ stoppedAt 4 0
+unfolding readAnswer prefixOf prefixByte tableA2 lengthBytes
+prefix-20 = refl
+
+psi-414 : budgetOf 640 (flags false) twenties ≡ 414
+unfolding budgetOf spare word wordOf writeAll coding sent numbers normKinds normBits
+psi-414 = refl
+
+psi-500 : budgetOf 640 (flags true) twenties ≡ 500
+unfolding budgetOf spare word wordOf writeAll coding words table16 sent numbers normKinds normBits
+psi-500 = refl
+
+wide-80 : wideIn 640 true ≡ true
+unfolding wideIn
+wide-80 = refl
+
+head-of : (vs ts : List ℕ) (noise bits : ℕ) → take 5 (bytesOf 80 (bodyBits (small noise bits) vs ts)) ≡ 0x6A ∷ 0x6D ∷ 0xB6 ∷ 0xDB ∷ 0x6D ∷ []
+unfolding bytesOf val bodyBits word wordOf writeAll coding words table16 sent numbers normKinds normBits
+head-of vs ts noise bits = refl
+
+size-80 : modeBytes 0 ≡ 80
+unfolding modeBytes table22
+size-80 = refl
+
+begins : (noise bits : ℕ) (codes tail : List ℕ) → take 5 (drop 1 (bytesFor (small noise bits) codes tail)) ≡ 0x6A ∷ 0x6D ∷ 0xB6 ∷ 0xDB ∷ 0x6D ∷ []
+unfolding bytesFor
+begins noise bits codes tail =
+    ap (λ (b : List Bool). take 5 (bytesOf (modeBytes 0) b)) (body-is (small noise bits) codes tail)
+    ∙ ap (λ (n : ℕ). take 5 (bytesOf n (bodyBits (small noise bits) (take 800 codes) tail))) size-80 ∙ head-of (take 800 codes) tail noise bits
+
+-- ---- the claim
 
 pub claimed : All starred
 unfolding starred
-claimed = (refl, tt)
+claimed = (
+  prefix-20,
+  (
+    prefix.star-04,
+    (
+      prefix.star-80,
+      (
+        prefix.star-6C,
+        (
+          prefix.star-70,
+          (
+            recording.star-00-20,
+            (
+              psi-414,
+              (
+                ap (λ (b : Bool). sharesOf false b twenties 414) wide-80 ∙ allotment.starred .0,
+                (
+                  psi-500,
+                  (
+                    ap (λ (b : Bool). sharesOf false b twenties 500) wide-80 ∙ allotment.starred .1,
+                    (
+                      begins,
+                      (
+                        weights.starred,
+                        (
+                          lattice.stars .0,
+                          (
+                            lattice.stars .1,
+                            (
+                              lattice.stars .2,
+                              (lattice.stars .3, tt),
+                            ),
+                          ),
+                        ),
+                      ),
+                    ),
+                  ),
+                ),
+              ),
+            ),
+          ),
+        ),
+      ),
+    ),
+  ),
+)
