@@ -7,29 +7,14 @@ use Prim.Native.Nat.{ℕ, suc, _+_, _-_, _≤_, _<_}
 use native.Mathlib.Omega.{arith}
 use lib.Dec.{eqb}
 use lib.ListN.{length}
-use borrow.Author.Tests.{eq-eqb, ne-eqb, eqb-true, eqb-false}
+use borrow.Author.Tests.{eqb-true, eqb-false}
 use Rattle.ground.specs.Cases.{by-bool}
 use Rattle.ground.specs.Replies.{done, noByte, shortRoom, notAsBooked, noData, tooMany}
 use Rattle.frame.specs.Answers.{refused}
-use Rattle.recording.specs.Walk.{storedAt, madeCheck, ahead, ahead-stopped, walk, booked, mostFrames, checkOf, Fits, stored-fits, walk-end, walk-full, walk-refused}
+use Rattle.recording.specs.Walk.{storedAt, madeCheck, ahead, ahead-stopped, walk, booked, mostFrames, checkOf, booked-done, booked-missed, booked-other, Fits, stored-fits, walk-end, walk-full, walk-refused}
 use Rattle.recording.specs.Frames.{Frames}
 use Rattle.recording.specs.Told.{Stop, ended, passed, met, Told, walk-told, walk-frames}
 use Rattle.recording.specs.declared.answer.Check.{Check}
-
--- ---- the booking
-
-module _ (b : ℕ) (w : Check) where
-  pub booked-done : w .reply ≡ done → w .count ≡ b → booked b w ≡ w
-  unfolding booked
-  booked-done e q = rw (eq-eqb (w .reply) done e, eq-eqb (w .count) b q)
-
-  pub booked-missed : w .reply ≡ done → (w .count ≡ b → ⊥) → booked b w ≡ record { reply = notAsBooked; count = w .count; place = w .place }
-  unfolding booked
-  booked-missed e q = rw (eq-eqb (w .reply) done e, ne-eqb (w .count) b q)
-
-  pub booked-other : (w .reply ≡ done → ⊥) → booked b w ≡ w
-  unfolding booked
-  booked-other e = rw (ne-eqb (w .reply) done e)
 
 -- a frame that is there is refused with 2 to 7
 refusal : (rest : List ℕ) (x : ℕ) → 0 < length rest → storedAt rest ≡ refused x → (2 ≤ x) × (x ≤ 7)

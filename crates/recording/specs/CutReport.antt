@@ -1,7 +1,8 @@
 -- The cut report: a recording that was cut inside a frame is told from a sound one, and the answer says where.
 -- After k sound frames a part of a frame with data follows, at least its prefix byte and not all of it. Whatever the booking, the check answers 4 with
 -- the k sound frames and the place of the cut frame: the prefix byte alone decides, since it says more bytes than are there. Only behind 3,000 frames the
--- answer is 15, for there no byte is read. A cut between two frames leaves a sound recording, and shows at the booking alone: 11.
+-- answer is 15, for there no byte is read. A cut between two frames leaves a sound recording, and shows at the booking alone: 11
+-- (`all-unbooked` of Checked).
 -- Assumes nothing.
 use mathlib.Core.Path.{_≡_, refl, ap, _∙_}
 use mathlib.Core.List.{List, _++_}

@@ -1,4 +1,4 @@
--- Sound stored frames one after the other, and the walk over them.
+-- Sound stored frames, one after the other: a frame reads the same whatever follows it, and a part of it is cut.
 -- Assumes nothing.
 use mathlib.Core.Path.{_≡_, refl, sym, ap, _∙_}
 use mathlib.Core.List.{List, [], _∷_, _++_}
@@ -122,6 +122,7 @@ front-stored f rest p h q e =
 front-sound : (f rest : List ℕ) (m : ℕ) → Says f m → storedAt (f ++ rest) ≡ storedAt f
 front-sound f rest m y = front-stored f rest (Data (y .field)) (omega (arith, y .long)) (y .says) (front-data f rest (y .field) (omega (arith, y .bytes, y .long)))
 
+-- a stored frame followed by anything reads the same
 pub stored-front : (f rest : List ℕ) → Stored f → storedAt (f ++ rest) ≡ storedAt f
 stored-front f rest (bare e l) = front-stored f rest NoData (omega arith) (bare-says f e) refl
 stored-front f rest (full m x e l) = front-sound f rest m (sound-says f m x e)
@@ -155,6 +156,7 @@ module _ (s : List ℕ) (m : ℕ) (x : Frame) (e : storedAt s ≡ sound m x) whe
       stored-started (take j s) ∙ ap (λ (z : Prefix). started z (take j s)) (first-byte j h)
       ∙ data-cut (take j s) (y .field) (modeBytes m) (sym (y .bytes)) (omega arith)
 
+-- a byte of no data alone reads the same
 pub first-bare : (s : List ℕ) → storedAt s ≡ empty → (0 < length s) × (storedAt (take 1 s) ≡ empty) × (length (take 1 s) ≡ 1)
 first-bare s e = go s (bare-says s e)
   where

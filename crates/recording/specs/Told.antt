@@ -1,4 +1,4 @@
--- What an answer of the check tells, and what it answers of frames: every count is a count of sound frames that are there.
+-- What the walk answers of frames, and what its answer tells: every count is a count of sound frames that are there.
 -- Assumes nothing.
 use mathlib.Core.Path.{_≡_, refl, sym, ap, ap₂, _∙_, subst}
 use mathlib.Core.List.{List, [], _∷_, _++_, append-assoc}
@@ -93,7 +93,8 @@ walk-told (suc n) (b ∷ s) =
 
 -- the same bytes are never both j and k frames
 pub one-count : {j k : ℕ} {s : List ℕ} → Frames j s → Frames k s → j ≡ k
-one-count {j} {k} {s} a b =
-    let w : (i : ℕ) → Frames i s → i ≤ j + k → walk (j + k) (s ++ []) .count ≡ i =
-    λ i f h. ap (λ (c : Check). c .count) (walk-frames (j + k) [] f h ∙ ap (ahead i (length s)) (walk-end (j + k - i) [] refl) ∙ ahead-stopped i (length s) done) in
-    sym (w j a (omega arith)) ∙ w k b (omega arith)
+one-count {j} {k} {s} a b = sym (counted a (omega arith)) ∙ counted b (omega arith)
+  where
+    counted : {i : ℕ} → Frames i s → i ≤ j + k → walk (j + k) (s ++ []) .count ≡ i
+    counted {i} f h =
+        ap (λ (c : Check). c .count) (walk-frames (j + k) [] f h ∙ ap (ahead i (length s)) (walk-end (j + k - i) [] refl) ∙ ahead-stopped i (length s) done)

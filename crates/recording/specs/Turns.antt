@@ -7,11 +7,11 @@ use Prim.Native.Nat.{ℕ, suc, _+_, _-_, _≤_, _<_}
 use native.Mathlib.Omega.{arith}
 use lib.ListN.{length, take, drop, length-drop}
 use lib.Seq.{take-all, drop-drop}
-use borrow.Author.Tests.{eq-eqb, ne-eqb}
+use borrow.Author.Tests.{ne-eqb}
 use Rattle.ground.specs.Replies.{done, notAsBooked, noData, tooMany}
 use Rattle.frame.specs.Answers.{Outcome, refused, empty, sound, readAnswer, readingOf}
 use Rattle.frame.specs.declared.Reading.{Reading}
-use Rattle.recording.specs.Walk.{storedAt, madeCheck, stopped, ahead, ahead-none, ahead-ahead, ahead-stopped, walk, booked, mostFrames, checkOf, isSound, Fits, stored-fits, walk-end, walk-full, walk-refused, walk-empty, walk-sound}
+use Rattle.recording.specs.Walk.{storedAt, madeCheck, stopped, ahead, ahead-none, ahead-ahead, ahead-stopped, walk, booked, mostFrames, checkOf, booked-done, booked-missed, booked-other, isSound, Fits, stored-fits, walk-end, walk-full, walk-refused, walk-empty, walk-sound}
 
 -- ---- one frame
 
@@ -47,8 +47,8 @@ taken-of n s h (sound mode x) e f q = record { inside = omega (arith, f .1); sam
 -- ---- all frames
 
 -- the part of the source that is lent
-pub rest : (s : List ℕ) (at : ℕ) → take (length s - at) (drop at s) ≡ drop at s
-rest s at = take-all (length s - at) (drop at s) (omega (arith, length-drop at s))
+lent : (s : List ℕ) (at : ℕ) → take (length s - at) (drop at s) ≡ drop at s
+lent s at = take-all (length s - at) (drop at s) (omega (arith, length-drop at s))
 
 pub record Passed (src : List ℕ) (at count : ℕ) : Type 0 where
   pub few : count ≤ mostFrames
@@ -73,8 +73,10 @@ module _ (src : List ℕ) (at count : ℕ) (p : Passed src at count) where
       ∙ ahead-stopped count at x
 
   pub passed-full : (b : ℕ) → at < length src → count ≡ mostFrames → madeCheck tooMany count at ≡ checkOf src b
-  unfolding checkOf booked
-  passed-full b h e = sym (ap (booked b) (answered 0 (omega arith) tooMany (walk-full (drop at src) (omega (arith, length-drop at src)))))
+  unfolding checkOf
+  passed-full b h e =
+      sym (ap (booked b) (answered 0 (omega arith) tooMany (walk-full (drop at src) (omega (arith, length-drop at src))))
+      ∙ booked-other b (madeCheck tooMany count at) (λ z. omega arith))
 
   module _ (h : at < length src) (l : (count ≡ mostFrames) → ⊥)
       (room spare : ℕ) (er : room ≡ 800) (es : spare ≡ 320) (r : Reading) (e : r ≡ readingOf (readAnswer (take (length src - at) (drop at src)) room spare)) where
@@ -84,19 +86,19 @@ module _ (src : List ℕ) (at count : ℕ) (p : Passed src at count) where
     told : r ≡ readingOf (storedAt (drop at src))
     unfolding storedAt
     told =
-        e ∙ ap (λ (s : List ℕ). readingOf (readAnswer s room spare)) (rest src at)
+        e ∙ ap (λ (s : List ℕ). readingOf (readAnswer s room spare)) (lent src at)
         ∙ ap₂ (λ (c t : ℕ). readingOf (readAnswer (drop at src) c t)) er es
 
     one-less : mostFrames - count ≡ suc (mostFrames - (count + 1))
     one-less = omega (arith, p .few)
 
     pub passed-stop : (b : ℕ) → isSound (r .reply) ≡ false → madeCheck (r .reply) count at ≡ checkOf src b
-    unfolding checkOf booked
+    unfolding checkOf
     passed-stop b q =
         let o = storedAt (drop at src) in
         let y : r .reply ≡ readingOf o .reply = ap (λ (z : Reading). z .reply) told in
         let w = stop-of (mostFrames - (count + 1)) (drop at src) here o refl (ap isSound (sym y) ∙ q) in
-        sym (ap (booked b) (answered _ one-less (r .reply) (w ∙ ap stopped (sym y))) ∙ rw (ne-eqb (r .reply) done (not-done (r .reply) q)))
+        sym (ap (booked b) (answered _ one-less (r .reply) (w ∙ ap stopped (sym y))) ∙ booked-other b (madeCheck (r .reply) count at) (not-done (r .reply) q))
 
     pub passed-more : isSound (r .reply) ≡ true → Passed src (at + r .next) (count + 1)
     passed-more q =
@@ -115,14 +117,13 @@ module _ (src : List ℕ) (at count : ℕ) (p : Passed src at count) where
         }
 
   module _ (h : length src ≤ at) where
+    all-passed : walk mostFrames src ≡ madeCheck done count at
+    all-passed = answered (mostFrames - count) refl done (walk-end (mostFrames - count) (drop at src) (omega (arith, length-drop at src)))
+
     pub passed-unbooked : (b : ℕ) → (count ≡ b → ⊥) → madeCheck notAsBooked count at ≡ checkOf src b
-    unfolding checkOf booked
-    passed-unbooked b q =
-        sym (ap (booked b) (answered (mostFrames - count) refl done (walk-end (mostFrames - count) (drop at src) (omega (arith, length-drop at src))))
-        ∙ rw (ne-eqb count b q))
+    unfolding checkOf
+    passed-unbooked b q = sym (ap (booked b) all-passed ∙ booked-missed b (madeCheck done count at) refl q)
 
     pub passed-booked : (b : ℕ) → count ≡ b → madeCheck done count at ≡ checkOf src b
-    unfolding checkOf booked
-    passed-booked b q =
-        sym (ap (booked b) (answered (mostFrames - count) refl done (walk-end (mostFrames - count) (drop at src) (omega (arith, length-drop at src))))
-        ∙ rw (eq-eqb count b q))
+    unfolding checkOf
+    passed-booked b q = sym (ap (booked b) all-passed ∙ booked-done b (madeCheck done count at) refl q)

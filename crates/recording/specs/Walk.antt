@@ -8,7 +8,7 @@ use native.Mathlib.Nat.{zero-add, add-zero, add-assoc}
 use native.Mathlib.Omega.{arith}
 use lib.Dec.{eqb, ltb}
 use lib.ListN.{length, getD, drop}
-use borrow.Author.Tests.{ltb-true, ltb-false}
+use borrow.Author.Tests.{eq-eqb, ne-eqb, ltb-true, ltb-false}
 use Rattle.ground.specs.Cases.{by-bool}
 use Rattle.ground.specs.Replies.{done, notAsBooked, noData, tooMany}
 use Rattle.bits.specs.Bits.{bitsOf}
@@ -27,6 +27,7 @@ use Rattle.recording.specs.declared.answer.Check.{Check}
 unfoldable pub storedAt : List ℕ → Outcome
 storedAt s = readAnswer s 800 320
 
+-- number, count of sound frames, place
 abbrev pub madeCheck : ℕ → ℕ → ℕ → Check
 madeCheck x k n = record { reply = x; count = k; place = n }
 
@@ -44,14 +45,14 @@ onward (refused x) rest = stopped x
 onward empty rest = ahead 1 1 (rest 1)
 onward (sound mode x) rest = ahead 1 (modeBytes mode + 1) (rest (modeBytes mode + 1))
 
--- the walk with so many frames still allowed
+-- the walk with so many frames still allowed: 0 where no byte is left, 15 for a byte where no frame is allowed, unread
 unfoldable pub walk : ℕ → List ℕ → Check
 walk zero [] = stopped done
 walk zero (b ∷ s) = stopped tooMany
 walk (suc n) [] = stopped done
 walk (suc n) (b ∷ s) = onward (storedAt (b ∷ s)) (λ k. walk n (drop k (b ∷ s)))
 
--- at the end the count is held against the booking
+-- at the end the count is held against the booking: 11
 unfoldable pub booked : ℕ → Check → Check
 booked b w =
     cond (eqb (w .reply) done) (cond (eqb (w .count) b) w (madeCheck notAsBooked (w .count) (w .place))) w
@@ -59,12 +60,16 @@ booked b w =
 abbrev pub mostFrames : ℕ
 mostFrames = 3000
 
+-- the file check
 unfoldable pub checkOf : List ℕ → ℕ → Check
 checkOf src booking = booked booking (walk mostFrames src)
 
--- 0 and 14 count
+-- the replies of sound frames: 14 and 0
 unfoldable pub isSound : ℕ → Bool
 isSound x = cond (eqb x noData) true (eqb x done)
+
+pub made-same : {x y k j n m : ℕ} → x ≡ y → k ≡ j → n ≡ m → madeCheck x k n ≡ madeCheck y j m
+made-same e f g = rw (e, f, g)
 
 -- ---- frames in front
 
@@ -77,6 +82,21 @@ ahead-ahead j m k n w =
 
 pub ahead-stopped : (k n x : ℕ) → ahead k n (stopped x) ≡ madeCheck x k n
 ahead-stopped k n x = ap₂ (madeCheck x) (add-zero k) (add-zero n)
+
+-- ---- the booking
+
+module _ (b : ℕ) (w : Check) where
+  pub booked-done : w .reply ≡ done → w .count ≡ b → booked b w ≡ w
+  unfolding booked
+  booked-done e q = rw (eq-eqb (w .reply) done e, eq-eqb (w .count) b q)
+
+  pub booked-missed : w .reply ≡ done → (w .count ≡ b → ⊥) → booked b w ≡ madeCheck notAsBooked (w .count) (w .place)
+  unfolding booked
+  booked-missed e q = rw (eq-eqb (w .reply) done e, ne-eqb (w .count) b q)
+
+  pub booked-other : (w .reply ≡ done → ⊥) → booked b w ≡ w
+  unfolding booked
+  booked-other e = rw (ne-eqb (w .reply) done e)
 
 -- ---- the frame at the start
 

@@ -6,6 +6,7 @@ use native.Mathlib.Omega.{arith}
 use Prim.Native.Nat.{_-_}
 use denote.Ref.{now}
 use lib.ListN.{length}
+use Rattle.recording.specs.Walk.{made-same}
 use Rattle.recording.specs.Turns.{Passed, passed-none, passed-full, passed-stop, passed-more, passed-unbooked, passed-booked}
 use Rattle.recording.proofs.check.Statement.{statement}
 use Rattle.recording.proofs.check.Tie as tie
@@ -26,7 +27,8 @@ returns : tie.Need-returns Inv-loop μ-loop
 returns c =
     let l = c .before .before .before .loop in
     let a = c .before .before .before .before .before .args in
-    c .made-check .ensures ∙ passed-full (now (a .src)) (l .at) (l .count) (l .inv .0) (a .booking) (c .before .before .loop-test .taken) (omega arith)
+    c .made-check .ensures ∙ made-same (omega arith) (omega arith) (omega arith)
+    ∙ passed-full (now (a .src)) (l .at) (l .count) (l .inv .0) (a .booking) (c .before .before .loop-test .taken) (omega arith)
 
 sub-read : tie.Need-sub-read Inv-loop μ-loop
 sub-read c = search needs
@@ -58,7 +60,7 @@ returns-2 c =
     let i = d .before .before .before .before in
     let l = i .before .before .loop in
     let a = i .before .before .before .before .args in
-    c .made-check2 .ensures
+    c .made-check2 .ensures ∙ made-same (omega arith) (omega arith) (omega arith)
     ∙ passed-stop (now (a .src)) (l .at) (l .count) (l .inv .0) (i .before .loop-test .taken) (λ e. omega arith) _ _ (l .inv .1) (l .inv .2) (d .read .result) (d .read .ensures .0)
     (a .booking) (sym (c .before .before .is-sound .ensures) ∙ not-true _ (c .before .if2 .taken))
 
@@ -89,7 +91,8 @@ returns-3 : tie.Need-returns-3 Inv-loop μ-loop
 returns-3 c =
     let l = c .before .before .before .loop in
     let a = c .before .before .before .before .before .args in
-    c .made-check3 .ensures ∙ passed-unbooked (now (a .src)) (l .at) (l .count) (l .inv .0) (c .before .before .loop-test .left) (a .booking) (λ e. c .before .if3 .taken (omega arith))
+    c .made-check3 .ensures ∙ made-same (omega arith) (omega arith) (omega arith)
+    ∙ passed-unbooked (now (a .src)) (l .at) (l .count) (l .inv .0) (c .before .before .loop-test .left) (a .booking) (λ e. omega arith)
 
 made-check-requires-4 : tie.Need-made-check-requires-4 Inv-loop μ-loop
 made-check-requires-4 c κs = search needs
@@ -98,7 +101,8 @@ returns-4 : tie.Need-returns-4 Inv-loop μ-loop
 returns-4 c =
     let l = c .before .before .before .loop in
     let a = c .before .before .before .before .before .args in
-    c .made-check4 .ensures ∙ passed-booked (now (a .src)) (l .at) (l .count) (l .inv .0) (c .before .before .loop-test .left) (a .booking) (omega arith)
+    c .made-check4 .ensures ∙ made-same (omega arith) (omega arith) (omega arith)
+    ∙ passed-booked (now (a .src)) (l .at) (l .count) (l .inv .0) (c .before .before .loop-test .left) (a .booking) (omega arith)
 
 pub check-spec : {M : Type 1} → statement M
 check-spec =
