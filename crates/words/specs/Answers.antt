@@ -4,6 +4,7 @@ use mathlib.Core.Path.{_≡_, refl, sym, ap, ap₂, _∙_}
 use mathlib.Core.Bool.{Bool, cond}
 use mathlib.Core.List.{List, []}
 use Prim.Native.Nat.{ℕ, zero, suc, _+_, _-_, _^_, _≤_, _<_, min}
+use native.Mathlib.Nat.{add-zero}
 use native.Mathlib.Omega.{arith}
 use lib.Dec.{ltb}
 use lib.ListN.{length, getD}
@@ -80,3 +81,8 @@ module _ (s : List ℕ) (at end kind k left : ℕ) (q : k ≡ kind) (l : left �
       let w : min k 16 ≡ k = omega arith in
       let next : at + k ≡ at + (left - length (view s (at + k) (left - k))) = omega (arith, length-view s (at + k) (left - k)) in
       ap₂ At (e ∙ ap (λ (n : ℕ). val (view s at n)) w) next ∙ sym (ap (placed at left) (fixed-fine s at k left m)) ∙ fixed-is h
+
+-- an unused place is no bits and reads as 0
+pub at-none : (s : List ℕ) (at end kind : ℕ) → kind ≡ 0 → At 0 at ≡ wordAt s at end kind
+unfolding view val
+at-none s at end kind e = ap (At 0) (sym (add-zero at)) ∙ at-fixed s at end kind 0 (end - at) (sym e) refl 0 (omega arith) (omega arith) refl

@@ -2,11 +2,12 @@
 -- Assumes nothing.
 use mathlib.Core.Path.{_≡_, refl, sym, ap, ap₂, _∙_}
 use mathlib.Core.Bool.{Bool}
-use mathlib.Core.List.{List, []}
+use mathlib.Core.List.{List, [], _∷_}
 use Prim.Native.Nat.{ℕ, zero, suc, _+_, _-_, _*_, _/_, _%_, _^_, _≤_, _<_}
 use native.Mathlib.Omega.{arith}
-use lib.Dec.{T, ltb, ltb→lt}
-use lib.ListN.{length, getD}
+use lib.Dec.{T, eqb, eqb→eq, ltb, ltb→lt}
+use lib.ListN.{length, getD, take, drop, length-take, length-drop}
+use lib.Seq.{getD-take, getD-drop}
 use Rattle.ground.specs.Tables.{every, every-at}
 use Rattle.bits.specs.Bits.{word, val}
 use Rattle.bits.specs.Numbers.{word-val, length-word}
@@ -102,3 +103,46 @@ word-few kind v =
     by-bool (ltb v (length (words (kind - 16))))
     (λ f. rw (coding-column kind h) (omega (arith, words-short (kind - 16) v (ltb-true v _ f))))
     (λ f. rw (coding-column kind h, List·getD-eq-default (words (kind - 16)) [] (ltb-false v _ f)) (omega arith)))
+
+-- ---- the words of all columns, one after the other
+
+unfoldable pub spellTable : List ℕ
+spellTable =
+    1 ∷ 51 ∷ 59 ∷ 18 ∷ 2 ∷ 10 ∷ 76 ∷ 133 ∷ 141 ∷ 84 ∷ 92 ∷ 26 ∷ 2 ∷ 51 ∷ 52 ∷ 60
+    ∷ 165 ∷ 173 ∷ 181 ∷ 374 ∷ 382 ∷ 133 ∷ 141 ∷ 149 ∷ 157 ∷ 36 ∷ 44 ∷ 59 ∷ 2 ∷ 19 ∷ 68 ∷ 165
+    ∷ 173 ∷ 390 ∷ 398 ∷ 406 ∷ 414 ∷ 903 ∷ 911 ∷ 919 ∷ 927 ∷ 935 ∷ 943 ∷ 951 ∷ 959 ∷ 967 ∷ 975 ∷ 983
+    ∷ 991 ∷ 999 ∷ 1007 ∷ 1023 ∷ 422 ∷ 430 ∷ 438 ∷ 446 ∷ 181 ∷ 189 ∷ 76 ∷ 27 ∷ 215 ∷ 471 ∷ 727 ∷ 983
+    ∷ 223 ∷ 479 ∷ 735 ∷ 991 ∷ 102 ∷ 230 ∷ 358 ∷ 486 ∷ 20 ∷ 52 ∷ 35 ∷ 51 ∷ 3 ∷ 19 ∷ 84 ∷ 116
+    ∷ 118 ∷ 246 ∷ 374 ∷ 502 ∷ 247 ∷ 503 ∷ 759 ∷ 1015 ∷ 255 ∷ 511 ∷ 767 ∷ 1023 ∷ []
+
+rule : ℕ → ℕ → ℕ → Bool
+rule c v e = eqb e (packed (getD (words c) v []))
+
+part : ℕ → List ℕ
+part c = take (length (words c)) (drop (startOf c) spellTable)
+
+tested : (c : ℕ) → c < 5 → T (every (rule c) 0 (part c))
+unfolding spellTable rule part packed startOf words columnOf table16 table20 word val
+tested zero h = tt
+tested (suc zero) h = tt
+tested (suc (suc zero)) h = tt
+tested (suc (suc (suc zero))) h = tt
+tested (suc (suc (suc (suc zero)))) h = tt
+tested (suc (suc (suc (suc (suc c))))) h = absurd (omega arith)
+
+pub spell-long : length spellTable ≡ 92
+unfolding spellTable
+spell-long = refl
+
+pub entry : (c v : ℕ) → c < 5 → v < length (words c) → getD spellTable (startOf c + v) 0 ≡ packed (getD (words c) v [])
+unfolding rule part
+entry c v h l =
+    let n = length (words c) in
+    let room : length (part c) ≡ n = omega (arith, length-take n (drop (startOf c) spellTable), length-drop (startOf c) spellTable, spell-long, start-next c, start-end c h) in
+    sym (getD-take n (drop (startOf c) spellTable) v 0 l ∙ getD-drop (startOf c) spellTable v 0)
+    ∙ eqb→eq (getD (part c) v 0) (packed (getD (words c) v [])) (every-at (rule c) (part c) 0 (tested c h) v (omega arith))
+
+-- the word of an unused place
+pub word-none : (kind v : ℕ) → kind ≡ 0 → wordOf (coding kind) v ≡ []
+unfolding word
+word-none kind v e = ap (λ (k : ℕ). wordOf (coding k) v) e ∙ ap (λ (c : Coding). wordOf c v) (coding-fixed 0 (omega arith)) ∙ word-fixed 0 v

@@ -8,8 +8,8 @@ ghost use Rattle.bits.specs.Bits.{word, view, laid};
 ghost use Rattle.bits.specs.Codings.{unword, wordOf, fit};
 ghost use Rattle.words.specs.Tables.{words, column, coding};
 ghost use Rattle.words.specs.Answers.{placed, wordAt};
-ghost use Rattle.words.specs.Look.{right};
-ghost use Rattle.words.specs.Spell.{packed, startOf};
+ghost use Rattle.words.specs.Look.{right, lookTable};
+ghost use Rattle.words.specs.Spell.{packed, startOf, spellTable};
 use bits::Refusal;
 
 pub mod runs;
@@ -32,11 +32,11 @@ fn wide(x: u8) -> usize
     x as usize
 }
 
-fn look(k: usize) -> usize
-    requires { ⌜ k < 640 ⌝ }
+fn look(table: &[u8; 640], k: usize) -> usize
+    requires { ⌜ (now table ≡ lookTable) × (k < 640) ⌝ }
     ensures { λ r. ⌜ T (right k r) × (r < 256) ⌝ }
 {
-    wide(tables::LOOK[k])
+    wide(table[k])
 }
 
 // The column of a kind from 16 on.
@@ -48,11 +48,11 @@ fn column_of(kind: usize) -> usize
 }
 
 // The word of a column at a place, within the bits that are left.
-fn column_word(s: &[u8], at: usize, left: usize, c: usize) -> Word
-    requires { ⌜ (c < 5) × (at + left < 18446744073709551616) ⌝ }
+fn column_word(table: &[u8; 640], s: &[u8], at: usize, left: usize, c: usize) -> Word
+    requires { ⌜ (now table ≡ lookTable) × (c < 5) × (at + left < 18446744073709551616) ⌝ }
     ensures { λ r. ⌜ r ≡ placed at left (unword (column c) (view (now (s .entry)) at left)) ⌝ }
 {
-    let e = look(c * 128 + bits::read_bits(s, at, 7));
+    let e = look(table, c * 128 + bits::read_bits(s, at, 7));
     if e == 0 {
         if left < 7 {
             return Word::No(Refusal::Past);
@@ -72,19 +72,31 @@ fn minus(a: usize, b: usize) -> usize
     if b < a { a - b } else { 0 }
 }
 
-// The word of a kind at a place, all of it before the end: the bits from the end on never help to finish a word.
-pub fn word_at(s: &[u8], at: usize, end: usize, kind: u8) -> Word
+// The word of a kind at a place, by a lent look-up.
+fn word_in(table: &[u8; 640], s: &[u8], at: usize, end: usize, kind: u8) -> Word
+    requires { ⌜ now table ≡ lookTable ⌝ }
     ensures { λ r. ⌜ r ≡ wordAt (now (s .entry)) at end kind ⌝ }
 {
+    if kind == 0 {
+        return Word::At(0, at);
+    }
     let kind = wide(kind);
     let left = minus(end, at);
     if 16 <= kind {
-        return column_word(s, at, left, column_of(kind));
+        return column_word(table, s, at, left, column_of(kind));
     }
     if left < kind {
         return Word::No(Refusal::Past);
     }
     Word::At(bits::read_bits(s, at, kind) as u16, at + kind)
+}
+
+// The word of a kind at a place, all of it before the end: the bits from the end on never help to finish a word.
+pub fn word_at(s: &[u8], at: usize, end: usize, kind: u8) -> Word
+    ensures { λ r. ⌜ r ≡ wordAt (now (s .entry)) at end kind ⌝ }
+{
+    let table = tables::LOOK;
+    word_in(&table, s, at, end, kind)
 }
 
 fn wide16(x: u16) -> usize
@@ -108,11 +120,11 @@ fn size_of(c: usize) -> usize
     start_of(c + 1) - start_of(c)
 }
 
-fn spell(c: usize, v: usize) -> usize
-    requires { ⌜ (c < 5) × (v < length (words c)) ⌝ }
+fn spell(table: &[u16; 92], c: usize, v: usize) -> usize
+    requires { ⌜ (now table ≡ spellTable) × (c < 5) × (v < length (words c)) ⌝ }
     ensures { λ r. ⌜ (r ≡ packed (getD (words c) v [])) × (r < 65536) ⌝ }
 {
-    wide16(tables::WORDS[start_of(c) + v])
+    wide16(table[start_of(c) + v])
 }
 
 // A word as so many bits of a number.
@@ -122,7 +134,8 @@ struct Spelling {
 }
 
 // The word of a kind for a number; no bits where it has none.
-fn spelt(kind: u8, v: u16) -> Spelling
+fn spelt(table: &[u16; 92], kind: u8, v: u16) -> Spelling
+    requires { ⌜ now table ≡ spellTable ⌝ }
     ensures { λ r. ⌜ (word (r .bits) (r .value) ≡ wordOf (coding kind) v) × (r .bits ≤ 16) ⌝ }
 {
     let kind = wide(kind);
@@ -137,28 +150,56 @@ fn spelt(kind: u8, v: u16) -> Spelling
     if size_of(c) <= v {
         return Spelling { bits: 0, value: 0 };
     }
-    let e = spell(c, v);
+    let e = spell(table, c, v);
     Spelling {
         bits: e % 8,
         value: e / 8,
     }
 }
 
+// Writes the word of a kind for a number at a place, by lent words.
+fn put_in(table: &[u16; 92], s: &mut [u8], at: usize, kind: u8, v: u16) -> usize
+    requires { ⌜ now table ≡ spellTable ⌝ }
+    ensures { λ r. ⌜ (r ≡ length (wordOf (coding kind) v)) × (now (s .exit) ≡ laid (now (s .entry)) at (wordOf (coding kind) v)) ⌝ }
+{
+    if kind == 0 {
+        return 0;
+    }
+    let w = spelt(table, kind, v);
+    bits::write_bits(s, at, w.bits, w.value);
+    w.bits
+}
+
 // Writes the word of a kind for a number at a place, and gives its length. A number without a word is no bits.
 pub fn put_word(s: &mut [u8], at: usize, kind: u8, v: u16) -> usize
     ensures { λ r. ⌜ (r ≡ length (wordOf (coding kind) v)) × (now (s .exit) ≡ laid (now (s .entry)) at (wordOf (coding kind) v)) ⌝ }
 {
-    let w = spelt(kind, v);
-    bits::write_bits(s, at, w.bits, w.value);
-    w.bits
+    let table = tables::WORDS;
+    put_in(&table, s, at, kind, v)
+}
+
+// The words of all columns, to be lent.
+pub fn all_words() -> [u16; 92]
+    ensures { λ r. ⌜ r ≡ spellTable ⌝ }
+{
+    tables::WORDS
+}
+
+// The length of the word of a kind for a number, by lent words.
+pub fn bits_in(table: &[u16; 92], kind: u8, v: u16) -> usize
+    requires { ⌜ now table ≡ spellTable ⌝ }
+    ensures { λ r. ⌜ r ≡ length (wordOf (coding kind) v) ⌝ }
+{
+    let spelling = spelt(table, kind, v);
+    spelling.bits
 }
 
 // The length of the word of a kind for a number.
 pub fn word_bits(kind: u8, v: u16) -> usize
     ensures { λ r. ⌜ r ≡ length (wordOf (coding kind) v) ⌝ }
 {
-    let spelling = spelt(kind, v);
-    spelling.bits
+    let table = tables::WORDS;
+    bits_in(&table, kind, v)
 }
 
 // Whether a number has a word of a kind.

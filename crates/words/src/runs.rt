@@ -6,6 +6,8 @@ ghost use lib.ListN.{length};
 ghost use Rattle.bits.specs.Bits.{laid};
 ghost use Rattle.bits.specs.Codecs.{writeAll};
 ghost use Rattle.words.specs.Tables.{coding};
+ghost use Rattle.words.specs.Look.{lookTable};
+ghost use Rattle.words.specs.Spell.{spellTable};
 ghost use Rattle.words.specs.Runs.{ran, runAt, readSome, over, passedUp, runReply};
 use crate::Word;
 use bits::Refusal;
@@ -37,16 +39,23 @@ pub fn run_reply(run: Run) -> u8
     }
 }
 
-// Reads the words of the kinds, all before the end; their numbers go into out, up to the first refusal.
-pub fn read_words(s: &[u8], at: usize, end: usize, kinds: &[u8], out: &mut [u16]) -> Run
-    requires { ⌜ length (now kinds) ≤ length (now out) ⌝ }
+// The run by a lent look-up.
+fn read_run(
+    table: &[u8; 640],
+    s: &[u8],
+    at: usize,
+    end: usize,
+    kinds: &[u8],
+    out: &mut [u16],
+) -> Run
+    requires { ⌜ (now table ≡ lookTable) × (length (now kinds) ≤ length (now out)) ⌝ }
     ensures { λ r. ⌜ (r ≡ ran at (end - at) (runAt (now (s .entry)) at end (now (kinds .entry))))
         × (now (out .exit) ≡ over (readSome (now (s .entry)) at end (now (kinds .entry))) (now (out .entry))) ⌝ }
 {
     let mut p = at;
     let mut i: usize = 0;
     while i < kinds.len() {
-        let w = crate::word_at(s, p, end, kinds[i]);
+        let w = crate::word_in(table, s, p, end, kinds[i]);
         let Word::At(v, next) = w else {
             return passed(w);
         };
@@ -57,16 +66,50 @@ pub fn read_words(s: &[u8], at: usize, end: usize, kinds: &[u8], out: &mut [u16]
     Run::Done(p)
 }
 
-// Writes the words of the kinds for the numbers, and gives how many bits they are.
-pub fn write_words(s: &mut [u8], at: usize, kinds: &[u8], numbers: &[u16]) -> usize
-    requires { ⌜ (length (now kinds) ≡ length (now numbers)) × (at + 16 * length (now kinds) < 18446744073709551616) ⌝ }
+// Reads the words of the kinds, all before the end; their numbers go into out, up to the first refusal.
+pub fn read_words(s: &[u8], at: usize, end: usize, kinds: &[u8], out: &mut [u16]) -> Run
+    requires { ⌜ length (now kinds) ≤ length (now out) ⌝ }
+    ensures { λ r. ⌜ (r ≡ ran at (end - at) (runAt (now (s .entry)) at end (now (kinds .entry))))
+        × (now (out .exit) ≡ over (readSome (now (s .entry)) at end (now (kinds .entry))) (now (out .entry))) ⌝ }
+{
+    let table = crate::tables::LOOK;
+    read_run(&table, s, at, end, kinds, out)
+}
+
+// The run by lent words.
+fn write_run(table: &[u16; 92], s: &mut [u8], at: usize, kinds: &[u8], numbers: &[u16]) -> usize
+    requires { ⌜ (now table ≡ spellTable) × (length (now kinds) ≡ length (now numbers)) × (at + 16 * length (now kinds) < 18446744073709551616) ⌝ }
     ensures { λ r. ⌜ (r ≡ length (writeAll (map coding (now (kinds .entry))) (now (numbers .entry))))
         × (now (s .exit) ≡ laid (now (s .entry)) at (writeAll (map coding (now (kinds .entry))) (now (numbers .entry)))) ⌝ }
 {
     let mut n: usize = 0;
     let mut i: usize = 0;
     while i < kinds.len() {
-        n += crate::put_word(s, at + n, kinds[i], numbers[i]);
+        n += crate::put_in(table, s, at + n, kinds[i], numbers[i]);
+        i += 1;
+    }
+    n
+}
+
+// Writes the words of the kinds for the numbers, and gives how many bits they are.
+pub fn write_words(s: &mut [u8], at: usize, kinds: &[u8], numbers: &[u16]) -> usize
+    requires { ⌜ (length (now kinds) ≡ length (now numbers)) × (at + 16 * length (now kinds) < 18446744073709551616) ⌝ }
+    ensures { λ r. ⌜ (r ≡ length (writeAll (map coding (now (kinds .entry))) (now (numbers .entry))))
+        × (now (s .exit) ≡ laid (now (s .entry)) at (writeAll (map coding (now (kinds .entry))) (now (numbers .entry)))) ⌝ }
+{
+    let table = crate::tables::WORDS;
+    write_run(&table, s, at, kinds, numbers)
+}
+
+// The count by lent words.
+fn count_run(table: &[u16; 92], kinds: &[u8], numbers: &[u16]) -> usize
+    requires { ⌜ (now table ≡ spellTable) × (length (now kinds) ≡ length (now numbers)) × (16 * length (now kinds) < 18446744073709551616) ⌝ }
+    ensures { λ r. ⌜ r ≡ length (writeAll (map coding (now (kinds .entry))) (now (numbers .entry))) ⌝ }
+{
+    let mut n: usize = 0;
+    let mut i: usize = 0;
+    while i < kinds.len() {
+        n += crate::bits_in(table, kinds[i], numbers[i]);
         i += 1;
     }
     n
@@ -77,11 +120,6 @@ pub fn run_bits(kinds: &[u8], numbers: &[u16]) -> usize
     requires { ⌜ (length (now kinds) ≡ length (now numbers)) × (16 * length (now kinds) < 18446744073709551616) ⌝ }
     ensures { λ r. ⌜ r ≡ length (writeAll (map coding (now (kinds .entry))) (now (numbers .entry))) ⌝ }
 {
-    let mut n: usize = 0;
-    let mut i: usize = 0;
-    while i < kinds.len() {
-        n += crate::word_bits(kinds[i], numbers[i]);
-        i += 1;
-    }
-    n
+    let table = crate::tables::WORDS;
+    count_run(&table, kinds, numbers)
 }

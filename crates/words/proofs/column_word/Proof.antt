@@ -29,7 +29,7 @@ add-look : tie.Need-add-look
 add-look c = omega (arith, view-lt (now (c .before .before .args .s)) (c .before .before .args .at) 7, c .read-bits .ensures)
 
 look-requires : tie.Need-look-requires
-look-requires c κs = omega (arith, view-lt (now (c .before .before .args .s)) (c .before .before .args .at) 7, c .read-bits .ensures)
+look-requires c κs = (c .before .before .pre .0, omega (arith, view-lt (now (c .before .before .args .s)) (c .before .before .args .at) 7, c .read-bits .ensures))
 
 returns : tie.Need-returns
 returns c =
@@ -52,11 +52,11 @@ returns-3 c =
     let e = c .before .before .look .result in
     rw (begins-cut s (a .at) (a .left) (a .c) (e / 8) (e % 8) (omega arith) (entry-word s (a .at) (a .c) e (told (c .before .before)) (c .before .if1 .left)) (c .if3 .taken))
 
-cast-t15 : tie.Need-cast-t15
-cast-t15 c = search needs
+cast-t16 : tie.Need-cast-t16
+cast-t16 c = search needs
 
-add-t8 : tie.Need-add-t8
-add-t8 c = search needs
+add-t9 : tie.Need-add-t9
+add-t9 c = search needs
 
 returns-4 : tie.Need-returns-4
 returns-4 c =
@@ -82,6 +82,6 @@ column-word-spec =
     returns
     returns-2
     returns-3
-    cast-t15
-    add-t8
+    cast-t16
+    add-t9
     returns-4)

@@ -1,67 +1,26 @@
--- `words::look` meets its contract: the rule of the look-up, by one test computed over its entries.
--- Assumes nothing.
-use borrow.Author.Needs.{needs}
-use mathlib.Core.List.{List, [], _∷_}
+-- `words::look` meets its contract: the rule of the look-up at the entry that is read. Assumes nothing.
+use mathlib.Core.Path.{_≡_, sym, ap, _∙_}
+use mathlib.Core.List.{List}
 use Prim.Native.Nat.{ℕ}
-use Rattle.bits.specs.Bits.{word}
-use Rattle.ground.specs.Tables.{every-at}
-use Rattle.words.specs.Tables.{words, refused, lacking, columnOf, table16, table20}
-use Rattle.words.specs.Look.{right, begins}
+use lib.Dec.{T}
+use lib.ListN.{getD}
+use mathlib.Core.Path.{subst}
+use Rattle.words.specs.Look.{right, lookTable, look-right}
+use borrow.Author.Needs.{needs}
 use Rattle.words.proofs.look.Statement.{statement}
 use Rattle.words.proofs.look.Tie as tie
 
-entries : List ℕ
-entries =
-    1 ∷ 1 ∷ 1 ∷ 1 ∷ 1 ∷ 1 ∷ 1 ∷ 1 ∷ 1 ∷ 1 ∷ 1 ∷ 1 ∷ 1 ∷ 1 ∷ 1 ∷ 1
-    ∷ 1 ∷ 1 ∷ 1 ∷ 1 ∷ 1 ∷ 1 ∷ 1 ∷ 1 ∷ 1 ∷ 1 ∷ 1 ∷ 1 ∷ 1 ∷ 1 ∷ 1 ∷ 1
-    ∷ 1 ∷ 1 ∷ 1 ∷ 1 ∷ 1 ∷ 1 ∷ 1 ∷ 1 ∷ 1 ∷ 1 ∷ 1 ∷ 1 ∷ 1 ∷ 1 ∷ 1 ∷ 1
-    ∷ 1 ∷ 1 ∷ 1 ∷ 1 ∷ 1 ∷ 1 ∷ 1 ∷ 1 ∷ 1 ∷ 1 ∷ 1 ∷ 1 ∷ 1 ∷ 1 ∷ 1 ∷ 1
-    ∷ 26 ∷ 26 ∷ 26 ∷ 26 ∷ 26 ∷ 26 ∷ 26 ∷ 26 ∷ 26 ∷ 26 ∷ 26 ∷ 26 ∷ 26 ∷ 26 ∷ 26 ∷ 26
-    ∷ 26 ∷ 26 ∷ 26 ∷ 26 ∷ 26 ∷ 26 ∷ 26 ∷ 26 ∷ 26 ∷ 26 ∷ 26 ∷ 26 ∷ 26 ∷ 26 ∷ 26 ∷ 26
-    ∷ 11 ∷ 11 ∷ 11 ∷ 11 ∷ 11 ∷ 11 ∷ 11 ∷ 11 ∷ 11 ∷ 11 ∷ 11 ∷ 11 ∷ 11 ∷ 11 ∷ 11 ∷ 11
-    ∷ 19 ∷ 19 ∷ 19 ∷ 19 ∷ 19 ∷ 19 ∷ 19 ∷ 19 ∷ 19 ∷ 19 ∷ 19 ∷ 19 ∷ 19 ∷ 19 ∷ 19 ∷ 19
-    ∷ 2 ∷ 2 ∷ 2 ∷ 2 ∷ 2 ∷ 2 ∷ 2 ∷ 2 ∷ 2 ∷ 2 ∷ 2 ∷ 2 ∷ 2 ∷ 2 ∷ 2 ∷ 2
-    ∷ 2 ∷ 2 ∷ 2 ∷ 2 ∷ 2 ∷ 2 ∷ 2 ∷ 2 ∷ 2 ∷ 2 ∷ 2 ∷ 2 ∷ 2 ∷ 2 ∷ 2 ∷ 2
-    ∷ 10 ∷ 10 ∷ 10 ∷ 10 ∷ 10 ∷ 10 ∷ 10 ∷ 10 ∷ 10 ∷ 10 ∷ 10 ∷ 10 ∷ 10 ∷ 10 ∷ 10 ∷ 10
-    ∷ 10 ∷ 10 ∷ 10 ∷ 10 ∷ 10 ∷ 10 ∷ 10 ∷ 10 ∷ 10 ∷ 10 ∷ 10 ∷ 10 ∷ 10 ∷ 10 ∷ 10 ∷ 10
-    ∷ 29 ∷ 29 ∷ 29 ∷ 29 ∷ 37 ∷ 37 ∷ 37 ∷ 37 ∷ 20 ∷ 20 ∷ 20 ∷ 20 ∷ 20 ∷ 20 ∷ 20 ∷ 20
-    ∷ 44 ∷ 44 ∷ 44 ∷ 44 ∷ 44 ∷ 44 ∷ 44 ∷ 44 ∷ 52 ∷ 52 ∷ 52 ∷ 52 ∷ 52 ∷ 52 ∷ 52 ∷ 52
-    ∷ 58 ∷ 58 ∷ 58 ∷ 58 ∷ 58 ∷ 58 ∷ 58 ∷ 58 ∷ 58 ∷ 58 ∷ 58 ∷ 58 ∷ 58 ∷ 58 ∷ 58 ∷ 58
-    ∷ 58 ∷ 58 ∷ 58 ∷ 58 ∷ 58 ∷ 58 ∷ 58 ∷ 58 ∷ 58 ∷ 58 ∷ 58 ∷ 58 ∷ 58 ∷ 58 ∷ 58 ∷ 58
-    ∷ 2 ∷ 2 ∷ 2 ∷ 2 ∷ 2 ∷ 2 ∷ 2 ∷ 2 ∷ 2 ∷ 2 ∷ 2 ∷ 2 ∷ 2 ∷ 2 ∷ 2 ∷ 2
-    ∷ 2 ∷ 2 ∷ 2 ∷ 2 ∷ 2 ∷ 2 ∷ 2 ∷ 2 ∷ 2 ∷ 2 ∷ 2 ∷ 2 ∷ 2 ∷ 2 ∷ 2 ∷ 2
-    ∷ 108 ∷ 108 ∷ 108 ∷ 108 ∷ 108 ∷ 108 ∷ 108 ∷ 108 ∷ 116 ∷ 116 ∷ 116 ∷ 116 ∷ 116 ∷ 116 ∷ 116 ∷ 116
-    ∷ 20 ∷ 20 ∷ 20 ∷ 20 ∷ 20 ∷ 20 ∷ 20 ∷ 20 ∷ 28 ∷ 28 ∷ 28 ∷ 28 ∷ 28 ∷ 28 ∷ 28 ∷ 28
-    ∷ 77 ∷ 77 ∷ 77 ∷ 77 ∷ 85 ∷ 85 ∷ 85 ∷ 85 ∷ 93 ∷ 93 ∷ 93 ∷ 93 ∷ 101 ∷ 101 ∷ 101 ∷ 101
-    ∷ 37 ∷ 37 ∷ 37 ∷ 37 ∷ 45 ∷ 45 ∷ 45 ∷ 45 ∷ 53 ∷ 53 ∷ 53 ∷ 53 ∷ 62 ∷ 62 ∷ 70 ∷ 70
-    ∷ 11 ∷ 11 ∷ 11 ∷ 11 ∷ 11 ∷ 11 ∷ 11 ∷ 11 ∷ 11 ∷ 11 ∷ 11 ∷ 11 ∷ 11 ∷ 11 ∷ 11 ∷ 11
-    ∷ 123 ∷ 123 ∷ 123 ∷ 123 ∷ 123 ∷ 123 ∷ 123 ∷ 123 ∷ 123 ∷ 123 ∷ 123 ∷ 123 ∷ 123 ∷ 123 ∷ 123 ∷ 123
-    ∷ 2 ∷ 2 ∷ 2 ∷ 2 ∷ 2 ∷ 2 ∷ 2 ∷ 2 ∷ 2 ∷ 2 ∷ 2 ∷ 2 ∷ 2 ∷ 2 ∷ 2 ∷ 2
-    ∷ 2 ∷ 2 ∷ 2 ∷ 2 ∷ 2 ∷ 2 ∷ 2 ∷ 2 ∷ 2 ∷ 2 ∷ 2 ∷ 2 ∷ 2 ∷ 2 ∷ 2 ∷ 2
-    ∷ 11 ∷ 11 ∷ 11 ∷ 11 ∷ 11 ∷ 11 ∷ 11 ∷ 11 ∷ 11 ∷ 11 ∷ 11 ∷ 11 ∷ 11 ∷ 11 ∷ 11 ∷ 11
-    ∷ 251 ∷ 251 ∷ 251 ∷ 251 ∷ 251 ∷ 251 ∷ 251 ∷ 251 ∷ 251 ∷ 251 ∷ 251 ∷ 251 ∷ 251 ∷ 251 ∷ 251 ∷ 251
-    ∷ 20 ∷ 20 ∷ 20 ∷ 20 ∷ 20 ∷ 20 ∷ 20 ∷ 20 ∷ 244 ∷ 244 ∷ 244 ∷ 244 ∷ 244 ∷ 244 ∷ 244 ∷ 244
-    ∷ 29 ∷ 29 ∷ 29 ∷ 29 ∷ 37 ∷ 37 ∷ 37 ∷ 37 ∷ 229 ∷ 229 ∷ 229 ∷ 229 ∷ 237 ∷ 237 ∷ 237 ∷ 237
-    ∷ 46 ∷ 46 ∷ 54 ∷ 54 ∷ 62 ∷ 62 ∷ 70 ∷ 70 ∷ 198 ∷ 198 ∷ 206 ∷ 206 ∷ 214 ∷ 214 ∷ 222 ∷ 222
-    ∷ 79 ∷ 87 ∷ 95 ∷ 103 ∷ 111 ∷ 119 ∷ 127 ∷ 135 ∷ 143 ∷ 151 ∷ 159 ∷ 167 ∷ 175 ∷ 183 ∷ 0 ∷ 191
-    ∷ 131 ∷ 131 ∷ 131 ∷ 131 ∷ 131 ∷ 131 ∷ 131 ∷ 131 ∷ 131 ∷ 131 ∷ 131 ∷ 131 ∷ 131 ∷ 131 ∷ 131 ∷ 131
-    ∷ 100 ∷ 100 ∷ 100 ∷ 100 ∷ 100 ∷ 100 ∷ 100 ∷ 100 ∷ 70 ∷ 70 ∷ 7 ∷ 39 ∷ 166 ∷ 166 ∷ 199 ∷ 231
-    ∷ 139 ∷ 139 ∷ 139 ∷ 139 ∷ 139 ∷ 139 ∷ 139 ∷ 139 ∷ 139 ∷ 139 ∷ 139 ∷ 139 ∷ 139 ∷ 139 ∷ 139 ∷ 139
-    ∷ 108 ∷ 108 ∷ 108 ∷ 108 ∷ 108 ∷ 108 ∷ 108 ∷ 108 ∷ 78 ∷ 78 ∷ 15 ∷ 47 ∷ 174 ∷ 174 ∷ 207 ∷ 239
-    ∷ 115 ∷ 115 ∷ 115 ∷ 115 ∷ 115 ∷ 115 ∷ 115 ∷ 115 ∷ 115 ∷ 115 ∷ 115 ∷ 115 ∷ 115 ∷ 115 ∷ 115 ∷ 115
-    ∷ 148 ∷ 148 ∷ 148 ∷ 148 ∷ 148 ∷ 148 ∷ 148 ∷ 148 ∷ 86 ∷ 86 ∷ 23 ∷ 55 ∷ 182 ∷ 182 ∷ 215 ∷ 247
-    ∷ 123 ∷ 123 ∷ 123 ∷ 123 ∷ 123 ∷ 123 ∷ 123 ∷ 123 ∷ 123 ∷ 123 ∷ 123 ∷ 123 ∷ 123 ∷ 123 ∷ 123 ∷ 123
-    ∷ 156 ∷ 156 ∷ 156 ∷ 156 ∷ 156 ∷ 156 ∷ 156 ∷ 156 ∷ 94 ∷ 94 ∷ 31 ∷ 63 ∷ 190 ∷ 190 ∷ 223 ∷ 255 ∷ []
-
-array-read-wide : tie.Need-array-read-wide
-array-read-wide c = search needs
+element-copy-out-wide : tie.Need-element-copy-out-wide
+element-copy-out-wide c = search needs
 
 wide-requires : tie.Need-wide-requires
 wide-requires c κs = search needs
 
 returns : tie.Need-returns
-unfolding entries right begins words refused lacking columnOf table16 table20 word
-returns c = (rw (c .wide .ensures .0) (every-at right entries 0 tt (c .before .args .k) (search needs)), search needs)
+returns c =
+    let k = c .before .before .args .k in
+    let p = c .before .before .pre in
+    (subst (λ (x : ℕ). T (right k x)) (sym (c .wide .ensures .0 ∙ ap (λ (l : List ℕ). getD l k 0) (p .0))) (look-right k (p .1)), search needs)
 
 pub look-spec : {M : Type 1} → statement M
-look-spec = tie.close (tie.spec array-read-wide wide-requires returns)
+look-spec = tie.close (tie.spec element-copy-out-wide wide-requires returns)

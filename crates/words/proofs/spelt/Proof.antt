@@ -35,7 +35,7 @@ returns-2 c =
     )
 
 spell-requires : tie.Need-spell-requires
-spell-requires c κs = search needs
+spell-requires c κs = (c .before .before .before .before .before .before .pre, search needs, search needs)
 
 returns-3 : tie.Need-returns-3
 returns-3 c =

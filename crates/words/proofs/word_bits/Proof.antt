@@ -1,18 +1,16 @@
--- `words::word_bits` meets its contract: as many bits as were spelt. Assumes nothing.
-use mathlib.Core.Path.{_≡_, ap, sym, _∙_}
-use lib.ListN.{length}
-use Rattle.bits.specs.Numbers.{length-word}
+-- `words::word_bits` meets its contract: the words that are lent are all of them. Assumes nothing.
+use mathlib.Core.Path.{refl}
+use Rattle.words.specs.Spell.{spellTable}
 use borrow.Author.Needs.{needs}
 use Rattle.words.proofs.word_bits.Statement.{statement}
 use Rattle.words.proofs.word_bits.Tie as tie
 
-spelt-requires : tie.Need-spelt-requires
-spelt-requires c κs = search needs
+bits-in-requires : tie.Need-bits-in-requires
+unfolding spellTable
+bits-in-requires c κs = refl
 
 returns : tie.Need-returns
-returns c =
-    let w = c .spelt in
-    sym (length-word (w .result .bits) (w .result .value)) ∙ ap length (w .ensures .0)
+returns c = c .bits-in .ensures
 
 pub word-bits-spec : {M : Type 1} → statement M
-word-bits-spec = tie.close (tie.spec spelt-requires returns)
+word-bits-spec = tie.close (tie.spec bits-in-requires returns)
