@@ -3,6 +3,7 @@ ghost use mathlib.Core.Path.{_≡_};
 ghost use mathlib.Core.Bool.{false};
 ghost use Prim.Native.Nat.{_≤_};
 ghost use lib.ListN.{length};
+ghost use Rattle.words.specs.Spell.{spellTable};
 ghost use Rattle.writer.specs.Choice.{asWord, asFixed, cheaper, plain, startReply, choiceOf};
 use frame::Record;
 use ground::replies::DONE;
@@ -32,7 +33,8 @@ fn start_reply(r: Record, codes: usize) -> u8
 }
 
 // What a number costs as a word of Table 20 where the kind is 2 to 5, and nothing elsewhere.
-fn as_word(kind: u8, v: u16) -> usize
+fn as_word(table: &[u16; 92], kind: u8, v: u16) -> usize
+    requires { ⌜ now table ≡ spellTable ⌝ }
     ensures { λ n. ⌜ (n ≡ asWord kind v) × (n ≤ 16) ⌝ }
 {
     if kind < 2 {
@@ -41,7 +43,7 @@ fn as_word(kind: u8, v: u16) -> usize
     if 5 < kind {
         return 0;
     }
-    words::word_bits(kind + 14, v)
+    words::bits_in(table, kind + 14, v)
 }
 
 // What a fixed code costs there.
@@ -58,15 +60,15 @@ fn as_fixed(kind: u8) -> usize
 }
 
 // Whether words cost less than fixed codes.
-fn words_cheaper(kinds: &[u8], numbers: &[u16]) -> bool
-    requires { ⌜ (length (now kinds) ≡ length (now numbers)) × (length (now kinds) ≤ 800) ⌝ }
+fn words_cheaper(table: &[u16; 92], kinds: &[u8], numbers: &[u16]) -> bool
+    requires { ⌜ (now table ≡ spellTable) × (length (now kinds) ≡ length (now numbers)) × (length (now kinds) ≤ 800) ⌝ }
     ensures { λ b. ⌜ b ≡ cheaper (now (kinds .entry)) (now (numbers .entry)) ⌝ }
 {
     let mut words: usize = 0;
     let mut fixed: usize = 0;
     let mut i: usize = 0;
     while i < kinds.len() {
-        words += as_word(kinds[i], numbers[i]);
+        words += as_word(table, kinds[i], numbers[i]);
         fixed += as_fixed(kinds[i]);
         i += 1;
     }
@@ -105,8 +107,9 @@ pub fn choose_flag_c(r: Record, codes: &[u16]) -> Choice
     if !crate::all_fit(&kinds, numbers) {
         return no_choice(WIDE_CODE);
     }
+    let table = words::all_words();
     Choice {
         reply: DONE,
-        flag: words_cheaper(&kinds, numbers),
+        flag: words_cheaper(&table, &kinds, numbers),
     }
 }

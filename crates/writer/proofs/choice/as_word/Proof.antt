@@ -13,14 +13,14 @@ returns c = (word-low (c .before .args .kind) (c .before .args .v) (c .if1 .take
 returns-2 : tie.Need-returns-2
 returns-2 c = (word-high (c .before .before .args .kind) (c .before .before .args .v) (c .before .if1 .left) (c .if2 .taken), omega arith)
 
-add-word-bits : tie.Need-add-word-bits
-add-word-bits c = search needs
+add-bits-in : tie.Need-add-bits-in
+add-bits-in c = search needs
 
-word-bits-requires : tie.Need-word-bits-requires
-word-bits-requires c κs = search needs
+bits-in-requires : tie.Need-bits-in-requires
+bits-in-requires c κs = c .before .before .pre
 
 returns-3 : tie.Need-returns-3
-returns-3 c = word-yes (c .before .before .before .args .kind) (c .before .before .before .args .v) _ (c .before .before .if1 .left) (c .before .if2 .left) (c .word-bits .ensures)
+returns-3 c = word-yes (c .before .before .before .args .kind) (c .before .before .before .args .v) _ (c .before .before .if1 .left) (c .before .if2 .left) (c .bits-in .ensures)
 
 pub as-word-spec : {M : Type 1} → statement M
-as-word-spec = tie.close (tie.spec returns returns-2 add-word-bits word-bits-requires returns-3)
+as-word-spec = tie.close (tie.spec returns returns-2 add-bits-in bits-in-requires returns-3)

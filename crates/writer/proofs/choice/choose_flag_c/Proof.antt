@@ -50,18 +50,22 @@ no-choice-requires-2 c κs = search needs
 returns-2 : tie.Need-returns-2
 returns-2 c = c .no-choice2 .ensures ∙ choice-wide (c .before .before .before .before .before .before .before .before .before .before .before .args .r) (now (c .before .before .before .before .before .before .before .before .before .before .before .args .codes)) _ (c .before .before .before .before .before .before .before .before .before .start-reply .ensures) (c .before .before .before .before .before .before .before .before .if1 .left) _ (planned (c .before .before .before .before .before .before) .0) (sym (c .before .before .all-fit .ensures) ∙ not-true _ (c .before .if2 .taken))
 
+all-words-requires : tie.Need-all-words-requires
+all-words-requires c κs = search needs
+
 slice-aggregate-words-cheaper : tie.Need-slice-aggregate-words-cheaper
 slice-aggregate-words-cheaper c = search needs
 
 words-cheaper-requires : tie.Need-words-cheaper-requires
-words-cheaper-requires c κs = (planned (c .before .before .before .before .before .before) .1 ∙ sym (length-take-le 800 (now (c .before .before .before .before .before .before .before .before .before .before .before .args .codes)) (many (c .before .before .before .before .before .before .before .before))), omega (arith, planned (c .before .before .before .before .before .before) .1))
+words-cheaper-requires c κs =
+    (c .before .before .all-words .ensures, planned (c .before .before .before .before .before .before .before .before) .1 ∙ sym (length-take-le 800 (now (c .before .before .before .before .before .before .before .before .before .before .before .before .before .args .codes)) (many (c .before .before .before .before .before .before .before .before .before .before))), omega (arith, planned (c .before .before .before .before .before .before .before .before) .1))
 
 returns-3 : tie.Need-returns-3
 returns-3 c =
-    let r = c .before .before .before .before .before .before .before .before .before .before .before .before .args .r in
-    let cs = now (c .before .before .before .before .before .before .before .before .before .before .before .before .args .codes) in
-    let k = planned (c .before .before .before .before .before .before .before) in
-    choice-made r cs _ (c .before .before .before .before .before .before .before .before .before .before .start-reply .ensures) (c .before .before .before .before .before .before .before .before .before .if1 .left) _ (k .0) (sym (c .before .before .before .all-fit .ensures) ∙ not-false _ (c .before .before .if2 .left)) _ (c .words-cheaper .ensures ∙ cheaper-is r cs _ (k .0) (k .1))
+    let r = c .before .before .before .before .before .before .before .before .before .before .before .before .before .before .args .r in
+    let cs = now (c .before .before .before .before .before .before .before .before .before .before .before .before .before .before .args .codes) in
+    let k = planned (c .before .before .before .before .before .before .before .before .before) in
+    choice-made r cs _ (c .before .before .before .before .before .before .before .before .before .before .before .before .start-reply .ensures) (c .before .before .before .before .before .before .before .before .before .before .before .if1 .left) _ (k .0) (sym (c .before .before .before .before .before .all-fit .ensures) ∙ not-false _ (c .before .before .before .before .if2 .left)) _ (c .words-cheaper .ensures ∙ cheaper-is r cs _ (k .0) (k .1))
 
 pub choose-flag-c-spec : {M : Type 1} → statement M
 choose-flag-c-spec =
@@ -77,6 +81,7 @@ choose-flag-c-spec =
     all-fit-requires
     no-choice-requires-2
     returns-2
+    all-words-requires
     slice-aggregate-words-cheaper
     words-cheaper-requires
     returns-3)

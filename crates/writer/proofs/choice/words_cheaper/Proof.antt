@@ -10,10 +10,10 @@ use Rattle.writer.proofs.choice.words_cheaper.Statement.{statement}
 use Rattle.writer.proofs.choice.words_cheaper.Tie as tie
 
 abbrev Inv-loop : tie.InvT-loop
-Inv-loop kinds numbers words₀ fixed₀ i₀ words fixed i = (i ≤ length kinds) × Costing kinds numbers words fixed i
+Inv-loop table kinds numbers words₀ fixed₀ i₀ words fixed i = (i ≤ length kinds) × Costing kinds numbers words fixed i
 
 abbrev μ-loop : tie.MeasureT-loop
-μ-loop kinds numbers words₀ fixed₀ i₀ words fixed i = length kinds - i
+μ-loop table kinds numbers words₀ fixed₀ i₀ words fixed i = length kinds - i
 
 loop-holds : tie.Need-loop-holds Inv-loop μ-loop
 loop-holds c = (omega arith, cost-start (now (c .before .before .args .kinds)) (now (c .before .before .args .numbers)))
@@ -28,7 +28,7 @@ shared-slice-read-as-word-2 : tie.Need-shared-slice-read-as-word-2 Inv-loop μ-l
 shared-slice-read-as-word-2 c = omega arith
 
 as-word-requires : tie.Need-as-word-requires Inv-loop μ-loop
-as-word-requires c κs = search needs
+as-word-requires c κs = c .before .before .before .before .before .before .pre .0
 
 add-words : tie.Need-add-words Inv-loop μ-loop
 add-words c = omega (arith, c .before .before .before .before .loop .inv .1 .few .0, c .as-word .ensures .1)
