@@ -4,7 +4,7 @@
 use mathlib.Core.Path.{_≡_, refl, sym, ap, _∙_}
 use mathlib.Core.Bool.{Bool, true, false, _&&_}
 use mathlib.Core.List.{List, [], _∷_, _++_, append-assoc, map}
-use Prim.Native.Nat.{ℕ, zero, suc, _+_, _≤_}
+use Prim.Native.Nat.{ℕ, zero, suc, _+_, _-_, _≤_}
 use native.Mathlib.Omega.{arith}
 use lib.Dec.{T}
 use lib.ListN.{length, take, drop, length-append, length-drop, take-append-drop}
@@ -15,7 +15,7 @@ use Rattle.ground.specs.Sums.{sumOf}
 use Rattle.bits.specs.Bits.{word, val}
 use Rattle.bits.specs.Numbers.{length-word}
 use Rattle.bits.specs.Codings.{Coding, fixed, Answer, got, no, unword, wordOf, Good, unword-word, word-unword}
-use Rattle.bits.specs.Codecs.{andThen, readAll, writeAll}
+use Rattle.bits.specs.Codecs.{Codec, andThen, readAll, writeAll, after, pair, within, glue, raw, rawRead}
 use Rattle.bits.specs.declared.Refusal.{Refusal}
 use Rattle.bits.specs.declared.Refusal.the-variants.{Outside}
 
@@ -103,3 +103,25 @@ pub then-alone : {A B : Type 0} (m : Answer A) (f : A → List Bool → Answer B
     → NormAlone (andThen m f)
 then-alone (got a r) f h k x e = k a r refl x e
 then-alone (no y) f h k x e = let q : y ≡ x = cc in sym q ∙ h y refl
+
+-- a reading that is not refused
+pub sound-alone : {A : Type 0} (m : Answer A) (a : A) (r : List Bool) → m ≡ got a r → NormAlone m
+sound-alone m a r g x e = got-alone a r x (sym g ∙ e)
+
+pub coded-alone : (n : ℕ) (c : Coding) → Sure n c → (b : List Bool) → n ≤ length b → NormAlone (unword c b)
+coded-alone n c s b h = let (v, r, e, l) = s b h in sound-alone (unword c b) v r e
+
+pub raw-alone : (n : ℕ) (b : List Bool) → n ≤ length b → NormAlone (raw n .read b)
+unfolding raw rawRead
+raw-alone n b h = sound-alone (raw n .read b) (take n b) (drop n b) (rw (le-leb n (length b) h))
+
+pub pair-alone : {A B : Type 0} (k : ℕ) (c : Codec k A) (d : A → Codec 0 B) (long : (a : A) (b : B) → d a .Ok b → k ≤ length (d a .write b)) (b : List Bool)
+    → NormAlone (c .read b) → ((a : A) (r : List Bool) → c .read b ≡ got a r → NormAlone (d a .read r)) → NormAlone (pair k c d long .read b)
+pair-alone k c d long b h g =
+    then-alone (c .read b) (after k c d long) h
+    (λ a r e. then-alone (d a .read r) (λ y q. got (a, y) q) (g a r e) (λ y q f. got-alone (a, y) q))
+
+pub within-alone : {A : Type 0} (k : ℕ) (c : Codec 0 A) (b : List Bool) → NormAlone (c .read (take (length b - k) b)) → NormAlone (within k c .read b)
+within-alone k c b h =
+    let z = drop (length b - k) b in
+    then-alone (c .read (take (length b - k) b)) (glue k c z) h (λ a r e. got-alone a (r ++ z))
