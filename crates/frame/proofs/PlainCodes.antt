@@ -1,4 +1,5 @@
--- With FlagC 0 the codes keep to the budget, and no word of them is missing: neither 6 nor 7 in reading.
+-- 01: 6 is "word 1111110 in the 5-bit column", 7 is "codes go past Ψ". Our reading: with FlagC 0 there is neither 6 nor 7. All codes are fixed codes then; their
+-- widths are the bits that the allotment gave, at most Ψ by demand 3; and the norms find their words in any body.
 -- Assumes nothing.
 use mathlib.Core.Path.{_≡_, refl, sym, ap, _∙_}
 use mathlib.Core.Bool.{Bool, false}
@@ -179,7 +180,7 @@ started-plain src x c (Data f) q e =
     (λ z. omega arith, λ z. omega arith))
     (λ t. other 4 x (λ z. omega arith, λ z. omega arith) (sym (data-cut src f n refl (ltb-false n (length src) t)) ∙ e))
 
--- With FlagC 0, the fourth bit of the body, a reading answers neither 6 nor 7, whatever the source and the lent room
+-- With FlagC 0 (the fourth bit of the body) there is neither 6 nor 7 in reading, whatever the source and the lent room
 pub plain-read : (src : List ℕ) (codes tail x : ℕ) → getD (bitsOf (drop 1 src)) 3 false ≡ false → readAnswer src codes tail ≡ refused x
     → (x ≡ noWord → ⊥) × (x ≡ pastBudget → ⊥)
 plain-read src codes tail x c e =
