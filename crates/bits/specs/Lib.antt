@@ -5,3 +5,4 @@ pub mod Bytes
 pub mod Laid
 pub mod Codings
 pub mod Codecs
+pub mod Sure

@@ -4,3 +4,4 @@ pub mod Places
 pub mod Answers
 pub mod Reads
 pub mod Budgets
+pub mod Fixed

@@ -112,6 +112,11 @@ module _ (transient : Bool) (norms : List ℕ) where
 
 -- ---- which norms are writable
 
+pub writable-range : (transient : Bool) (norms : List ℕ) → Writable transient norms → (p : ℕ) → p < 44 → getD norms p 0 ≤ 39
+writable-range transient norms w =
+    let ss = sent transient norms in
+    each-sent transient norms (λ (x : ℕ). x ≤ 39) (λ i h. near-range 15 ss (w .near) i (omega (arith, length-sent transient norms (w .long))))
+
 -- the reply is 0 exactly for norms that can be written
 module _ (transient : Bool) (norms : List ℕ) (l : length norms ≡ 44) where
   pub reply-writable : Writable transient norms → normReply transient norms ≡ done

@@ -7,3 +7,4 @@ pub mod Answers
 pub mod Reads
 pub mod Greatest
 pub mod Stars
+pub mod Sure

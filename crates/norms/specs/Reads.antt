@@ -32,7 +32,7 @@ guarded-bad true true y (bad k) x h e = let q : k ≡ x = cc in sym q ∙ h k re
 guarded-bad true false y c x h e = cc
 guarded-bad false t y c x h e = cc
 
-indices-bad : (x : ℕ) (ws : List ℕ) (k : Refusal) → indices x ws ≡ bad k → k ≡ Outside
+pub indices-bad : (x : ℕ) (ws : List ℕ) (k : Refusal) → indices x ws ≡ bad k → k ≡ Outside
 unfolding indices
 indices-bad x [] k e = absurd (let z : _≡_ {A = ℕ} 0 1 = cc in omega arith)
 indices-bad x (w ∷ ws) k e =

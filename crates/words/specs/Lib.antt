@@ -4,3 +4,4 @@ pub mod Look
 pub mod Spell
 pub mod Runs
 pub mod Writes
+pub mod Sure
