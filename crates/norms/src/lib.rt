@@ -4,7 +4,7 @@ ghost use Prim.Native.Nat.{ℕ, _+_, _-_, _≤_, _<_, min};
 ghost use lib.ListN.{length, getD};
 ghost use Rattle.bits.specs.Bits.{view, laid};
 ghost use Rattle.ground.specs.Fills.{table};
-ghost use Rattle.norms.specs.Order.{order, places, sent, banded};
+ghost use Rattle.norms.specs.Order.{pick, sent, banded};
 ghost use Rattle.norms.specs.Steps.{indices, numbers, stepsClose};
 ghost use Rattle.norms.specs.Legal.{capped, lowered, held, legalSent};
 ghost use Rattle.norms.specs.Part.{normKinds, normPart, normBits};
@@ -41,18 +41,18 @@ struct Indices {
     norms: [u8; 44],
 }
 
-fn place_of(b: usize) -> usize
-    requires { ⌜ b < 44 ⌝ }
-    ensures { λ r. ⌜ (r ≡ getD places b 0) × (r < 44) ⌝ }
+// The norms in another order: at each place the one that a lent table names.
+fn reordered(at: &[usize; 44], norms: [u8; 44]) -> [u8; 44]
+    requires { ⌜ (length (now at) ≡ 44) × ((k : ℕ) → k < 44 → getD (now at) k 0 < 44) ⌝ }
+    ensures { λ r. ⌜ r ≡ table 44 (pick (now (at .entry)) norms) ⌝ }
 {
-    tables::PLACES[b]
-}
-
-fn band_of(i: usize) -> usize
-    requires { ⌜ i < 44 ⌝ }
-    ensures { λ r. ⌜ (r ≡ getD order i 0) × (r < 44) ⌝ }
-{
-    tables::ORDER[i]
+    let mut out = [0u8; 44];
+    let mut i: usize = 0;
+    while i < 44 {
+        out[i] = norms[at[i]];
+        i += 1;
+    }
+    out
 }
 
 // From band order to sent order.
@@ -62,13 +62,8 @@ pub fn sent_order(transient: bool, norms: [u8; 44]) -> [u8; 44]
     if !transient {
         return norms;
     }
-    let mut out = [0u8; 44];
-    let mut i: usize = 0;
-    while i < 44 {
-        out[i] = norms[band_of(i)];
-        i += 1;
-    }
-    out
+    let bands = tables::ORDER;
+    reordered(&bands, norms)
 }
 
 // From sent order to band order.
@@ -78,13 +73,8 @@ pub fn band_order(transient: bool, ss: [u8; 44]) -> [u8; 44]
     if !transient {
         return ss;
     }
-    let mut out = [0u8; 44];
-    let mut b: usize = 0;
-    while b < 44 {
-        out[b] = ss[place_of(b)];
-        b += 1;
-    }
-    out
+    let places = tables::PLACES;
+    reordered(&places, ss)
 }
 
 fn wide(x: u8) -> u16
