@@ -1,7 +1,7 @@
 // Bits of lent bytes, top bit first: n bits at a bit place, read and written, by bytes and never bit by bit.
 // In specs/: codings of numbers as words, and codecs with their two laws.
 ghost use mathlib.Core.Path.{_≡_};
-ghost use Prim.Native.Nat.{ℕ, _*_, _<_, min};
+ghost use Prim.Native.Nat.{ℕ, _+_, _*_, _/_, _%_, _<_, min};
 ghost use lib.ListN.{getD, set};
 ghost use Rattle.bits.specs.Bits.{val, view, word, laid};
 ghost use Rattle.bits.specs.Codings.{replyOf};
@@ -51,7 +51,26 @@ fn window(s: &[u8], i: usize) -> usize
     requires { ⌜ i < 4611686018427387904 ⌝ }
     ensures { λ r. ⌜ r ≡ val (view (now (s .entry)) (i * 8) 24) ⌝ }
 {
+    if i + 2 < s.len() {
+        return s[i] as usize * 65536 + s[i + 1] as usize * 256 + s[i + 2] as usize;
+    }
     byte_at(s, i) * 65536 + byte_at(s, i + 1) * 256 + byte_at(s, i + 2)
+}
+
+// The last 24 bits of x as three bytes from place i on; past the end nothing changes.
+fn set_window(s: &mut [u8], i: usize, x: usize)
+    requires { ⌜ i < 4611686018427387904 ⌝ }
+    ensures { λ _. ⌜ now (s .exit) ≡ set (set (set (now (s .entry)) i (x / 65536 % 256)) (i + 1) (x / 256 % 256)) (i + 2) (x % 256) ⌝ }
+{
+    if i + 2 < s.len() {
+        s[i] = (x / 65536 % 256) as u8;
+        s[i + 1] = (x / 256 % 256) as u8;
+        s[i + 2] = (x % 256) as u8;
+        return;
+    }
+    set_byte(s, i, (x / 65536 % 256) as u8);
+    set_byte(s, i + 1, (x / 256 % 256) as u8);
+    set_byte(s, i + 2, (x % 256) as u8);
 }
 
 // At most 16 bits at a time.
@@ -80,7 +99,5 @@ pub fn write_bits(s: &mut [u8], place: usize, n: usize, v: usize)
     let m = h - n;
     let w = window(s, i);
     let x = ((w >> h) << h) + ((v % (1 << n)) << m) + w % (1 << m);
-    set_byte(s, i, (x / 65536 % 256) as u8);
-    set_byte(s, i + 1, (x / 256 % 256) as u8);
-    set_byte(s, i + 2, (x % 256) as u8);
+    set_window(s, i, x);
 }

@@ -1,13 +1,14 @@
 -- What stands at each of the 800 places of a record (01, Coefficient codes): by the rate of the place's band.
 -- Assumes nothing.
-use mathlib.Core.Path.{_≡_}
+use mathlib.Core.Path.{_≡_, refl, sym, ap, _∙_}
 use mathlib.Core.Bool.{Bool, true, false, cond, _&&_}
 use mathlib.Core.List.{List}
 use Prim.Native.Nat.{ℕ, _+_, _-_, _/_, _%_, _≤_, _<_}
 use native.Mathlib.Omega.{arith}
 use lib.Dec.{leb, ltb, eqb}
 use lib.ListN.{length, getD}
-use borrow.Author.Tests.{lt-ltb, le-ltb, le-leb, lt-leb, eq-eqb, ne-eqb}
+use borrow.Author.Tests.{lt-ltb, le-ltb, ltb-true, ltb-false, le-leb, lt-leb, eq-eqb, ne-eqb}
+use Rattle.ground.specs.Cases.{by-bool}
 use Rattle.ground.specs.Fills.{table, length-from}
 
 -- lengths by band: 0–15: 8; 16–23: 16; 24–35: 24; 36–43: 32
@@ -75,3 +76,32 @@ module _ (c : Bool) (rate i : ℕ) where
     pub kind-plain : c ≡ false → rate ≡ kindOf c rate i
     unfolding kindOf
     kind-plain e = rw (ne-eqb rate 1 h, e)
+
+-- ---- eight places at a time: a group of eight lies in one band, and its places but the first are of one kind
+
+pub band-group : (i k : ℕ) → i % 8 ≡ 0 → i ≤ k → k < i + 8 → bandOf k ≡ bandOf i
+band-group i k m l h =
+    by-bool (ltb i 128)
+    (λ a. let p = ltb-true i 128 a in sym (band-8 k (omega arith)) ∙ (let q : k / 8 ≡ i / 8 = omega arith in q) ∙ band-8 i p)
+    (λ a.
+    let p = ltb-false i 128 a in
+    by-bool (ltb i 256)
+    (λ b. let q = ltb-true i 256 b in sym (band-16 k (omega arith) (omega arith)) ∙ sixteen i k m l h p ∙ band-16 i p q)
+    (λ b.
+    let q = ltb-false i 256 b in
+    by-bool (ltb i 544)
+    (λ c. let r = ltb-true i 544 c in sym (band-24 k (omega arith) (omega arith)) ∙ twenty-four i k m l h q ∙ band-24 i q r)
+    (λ c. let r = ltb-false i 544 c in sym (band-32 k (omega arith)) ∙ thirty-two i k m l h r ∙ band-32 i r)))
+  where
+    sixteen : (i k : ℕ) → i % 8 ≡ 0 → i ≤ k → k < i + 8 → 128 ≤ i → 16 + (k - 128) / 16 ≡ 16 + (i - 128) / 16
+    sixteen i k m l h p = omega arith
+
+    twenty-four : (i k : ℕ) → i % 8 ≡ 0 → i ≤ k → k < i + 8 → 256 ≤ i → 24 + (k - 256) / 24 ≡ 24 + (i - 256) / 24
+    twenty-four i k m l h p = omega arith
+
+    thirty-two : (i k : ℕ) → i % 8 ≡ 0 → i ≤ k → k < i + 8 → 544 ≤ i → 36 + (k - 544) / 32 ≡ 36 + (i - 544) / 32
+    thirty-two i k m l h p = omega arith
+
+pub kind-group : (c : Bool) (rate i k : ℕ) → (i % 8 ≡ 0 → ⊥) → (k % 8 ≡ 0 → ⊥) → kindOf c rate i ≡ kindOf c rate k
+unfolding kindOf
+kind-group c rate i k m n = rw (ne-eqb (i % 8) 0 m, ne-eqb (k % 8) 0 n)

@@ -87,15 +87,24 @@ fn kind_of(flag_c: bool, rate: u8, i: usize) -> u8
     rate
 }
 
+// Eight places at a time: they lie in one band, and all but the first are of one kind.
 fn all_kinds(flag_c: bool, rates: [u8; 44]) -> [u8; 800]
     ensures { λ r. ⌜ r ≡ kinds «flag_c» rates ⌝ }
 {
     let mut out = [0u8; 800];
     let mut i: usize = 0;
     while i < 800 {
-        let b = band_of(i);
-        out[i] = kind_of(flag_c, rates[b], i);
-        i += 1;
+        let rate = rates[band_of(i)];
+        let other = kind_of(flag_c, rate, i + 1);
+        out[i] = kind_of(flag_c, rate, i);
+        out[i + 1] = other;
+        out[i + 2] = other;
+        out[i + 3] = other;
+        out[i + 4] = other;
+        out[i + 5] = other;
+        out[i + 6] = other;
+        out[i + 7] = other;
+        i += 8;
     }
     out
 }
@@ -195,6 +204,16 @@ fn read_codes(s: &[u8], at: usize, end: usize, kinds: &[u8], codes: &mut [u16]) 
     Run::Done(next)
 }
 
+// Eight bits at a place, 0 past the end.
+fn tail_byte(s: &[u8], p: usize) -> u8
+    ensures { λ r. ⌜ r ≡ val (view (now (s .entry)) p 8) ⌝ }
+{
+    if s.len() <= p / 8 {
+        return 0;
+    }
+    bits::read_bits(s, p, 8) as u8
+}
+
 // Fills the tail: 320 bytes from a bit place on.
 fn fill_tail(s: &[u8], at: usize, tail: &mut [u8])
     requires { ⌜ (320 ≤ length (now tail)) × (at < 65536) ⌝ }
@@ -202,7 +221,7 @@ fn fill_tail(s: &[u8], at: usize, tail: &mut [u8])
 {
     let mut i: usize = 0;
     while i < 320 {
-        tail[i] = bits::read_bits(s, at + i * 8, 8) as u8;
+        tail[i] = tail_byte(s, at + i * 8);
         i += 1;
     }
 }

@@ -63,48 +63,22 @@ rem-x-2 c = shifted-pos (24 - c .before .before .before .before .args .place % 8
 add-x-2 : tie.Need-add-x-2
 add-x-2 c = omega (arith, small c)
 
-cast-set-byte : tie.Need-cast-set-byte
-cast-set-byte c = search needs
-
-set-byte-requires : tie.Need-set-byte-requires
-set-byte-requires c κs = search needs
-
-add-set-byte : tie.Need-add-set-byte
-add-set-byte c = search needs
-
-cast-set-byte-2 : tie.Need-cast-set-byte-2
-cast-set-byte-2 c = search needs
-
-set-byte-requires-2 : tie.Need-set-byte-requires-2
-set-byte-requires-2 c κs = search needs
-
-add-set-byte-2 : tie.Need-add-set-byte-2
-add-set-byte-2 c = search needs
-
-cast-set-byte-3 : tie.Need-cast-set-byte-3
-cast-set-byte-3 c = search needs
-
-set-byte-requires-3 : tie.Need-set-byte-requires-3
-set-byte-requires-3 c κs = search needs
+set-window-requires : tie.Need-set-window-requires
+set-window-requires c κs = search needs
 
 same-length : tie.Need-same-length
 same-length c = search needs
 
 returns : tie.Need-returns
 returns c =
-    let c₁ = c .before .before .before .before .before .before .before .before .before .before in
-    let c₀ = c₁ .before .before .before .before in
-    let a = c₀ .before .before .args in
-    let n = c₀ .width .result in
-    let few : n ≤ 16 = omega arith in
-    let w = c₁ .before .before .window in
+    let a = c .before .before .before .before .before .before .before .before .args in
+    let n = c .before .before .before .before .before .before .width .result in
+    let few : n ≤ 16 = omega (arith, c .before .before .before .before .before .before .width .ensures) in
+    let w = c .before .before .before .before .window in
     let x = made (w .result) (24 - a .place % 8) (24 - a .place % 8 - n) n (a .v) in
-    let i = a .place / 8 in
-    c .before .before .set-byte3 .ensures
-    ∙ ap (λ (l : List ℕ). set l (i + 2) (x % 256)) (c .before .before .before .before .before .before .set-byte2 .ensures)
-    ∙ ap (λ (l : List ℕ). set (set l (i + 1) (x / 256 % 256)) (i + 2) (x % 256)) (c₁ .set-byte .ensures)
-    ∙ made-laid (now (a .s)) (a .place) n (a .v) few (λ k. c₀ .before .slice-known .given k .fits) x (ap (λ (z : ℕ). made z (24 - a .place % 8) (24 - a .place % 8 - n) n (a .v)) (w .ensures))
-    ∙ ap (λ (k : ℕ). laid (now (a .s)) (a .place) (word k (a .v))) (c₀ .width .ensures)
+    c .before .before .set-window .ensures
+    ∙ made-laid (now (a .s)) (a .place) n (a .v) few (λ k. c .before .before .before .before .before .before .before .slice-known .given k .fits) x (ap (λ (z : ℕ). made z (24 - a .place % 8) (24 - a .place % 8 - n) n (a .v)) (w .ensures))
+    ∙ ap (λ (k : ℕ). laid (now (a .s)) (a .place) (word k (a .v))) (c .before .before .before .before .before .before .width .ensures)
 
 pub write-bits-spec : {M : Type 1} → statement M
 write-bits-spec =
@@ -123,13 +97,6 @@ write-bits-spec =
     shl-x-4
     rem-x-2
     add-x-2
-    cast-set-byte
-    set-byte-requires
-    add-set-byte
-    cast-set-byte-2
-    set-byte-requires-2
-    add-set-byte-2
-    cast-set-byte-3
-    set-byte-requires-3
+    set-window-requires
     same-length
     returns)

@@ -26,17 +26,14 @@ abbrev μ-loop : tie.MeasureT-loop
 loop-holds : tie.Need-loop-holds Inv-loop μ-loop
 loop-holds c = copied-none _ _ 320
 
-mul-read-bits : tie.Need-mul-read-bits Inv-loop μ-loop
-mul-read-bits c = search needs
+mul-tail-byte : tie.Need-mul-tail-byte Inv-loop μ-loop
+mul-tail-byte c = search needs
 
-add-read-bits : tie.Need-add-read-bits Inv-loop μ-loop
-add-read-bits c = search needs
+add-tail-byte : tie.Need-add-tail-byte Inv-loop μ-loop
+add-tail-byte c = search needs
 
-read-bits-requires : tie.Need-read-bits-requires Inv-loop μ-loop
-read-bits-requires c κs = search needs
-
-cast-tail : tie.Need-cast-tail Inv-loop μ-loop
-cast-tail c = record { fits = rw (c .read-bits .ensures) (view-lt (now (c .before .before .before .before .before .args .s)) (c .before .before .before .before .before .args .at + c .before .before .loop .i * 8) 8) }
+tail-byte-requires : tie.Need-tail-byte-requires Inv-loop μ-loop
+tail-byte-requires c κs = search needs
 
 slice-write-tail : tie.Need-slice-write-tail Inv-loop μ-loop
 slice-write-tail c = omega (arith, c .before .before .loop .inv .long, c .before .before .before .before .before .pre .0)
@@ -53,7 +50,7 @@ loop-again c =
     let a = c .before .before .before .before .before .args in
     let f : ℕ → ℕ = λ i. val (view (now (a .s)) (a .at + i * 8) 8) in
     let h : l .i < 320 = c .before .loop-test .taken in
-    rw (c .read-bits .ensures ∙ sym (getD-table f 320 0 (l .i) h))
+    rw (c .tail-byte .ensures ∙ sym (getD-table f 320 0 (l .i) h))
     (copied-more (table 320 f) (now (a .tail)) 320 (l .tail) (l .i) h (omega (arith, length-from f 320 0)) (c .before .before .before .before .before .pre .0) (l .inv))
 
 same-length : tie.Need-same-length Inv-loop μ-loop
@@ -76,10 +73,9 @@ fill-tail-spec =
     Inv-loop
     μ-loop
     loop-holds
-    mul-read-bits
-    add-read-bits
-    read-bits-requires
-    cast-tail
+    mul-tail-byte
+    add-tail-byte
+    tail-byte-requires
     slice-write-tail
     add-i
     loop-less
