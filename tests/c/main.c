@@ -105,17 +105,27 @@ static void layout(void)
     FIELD(g719_prefix, length, 1, 1);
     FIELD(g719_prefix, bytes, 2, 2);
     FIELD(g719_prefix, next, 4, 1);
+    FIELD(g719_byte, byte, 1, 1);
+    FIELD(g719_record, mode, 0, 1);
+    FIELD(g719_record, transient, 1, 1);
+    FIELD(g719_record, flag_l, 2, 1);
+    FIELD(g719_record, flag_n, 3, 1);
+    FIELD(g719_record, flag_c, 4, 1);
     FIELD(g719_record, norms, 5, 44);
     FIELD(g719_record, noise, 49, 1);
     FIELD(g719_record, tail_bits, 50, 2);
     FIELD(g719_reading, next, 8, 8);
     FIELD(g719_reading, record, 16, 52);
+    FIELD(g719_writing, next, 8, 8);
+    FIELD(g719_choice, flag, 1, 1);
+    FIELD(g719_norms, norms, 1, 44);
     FIELD(g719_weights, weights, 1, 44);
     FIELD(g719_weights, scores, 46, 88);
     FIELD(g719_shares, rates, 1, 44);
     FIELD(g719_shares, left, 46, 2);
     FIELD(g719_point, at, 2, 16);
     FIELD(g719_index, at, 2, 16);
+    FIELD(g719_row, index, 1, 1);
     FIELD(g719_check, count, 4, 4);
     FIELD(g719_check, place, 8, 8);
 }
@@ -389,6 +399,27 @@ static g719_record draw_record(uint8_t mode, uint16_t codes[G719_CODES], uint8_t
     return r;
 }
 
+/* Each flag alone stands at its own bit of the body's first byte, transient at the top. */
+static void flags(void)
+{
+    static const uint16_t codes[G719_CODES];
+    static const uint8_t tail[G719_TAIL_BYTES];
+    for (int flag = 0; flag < 4; flag++) {
+        g719_record r = example(false);
+        r.transient = flag == 0;
+        r.flag_l = flag == 1;
+        r.flag_n = flag == 2;
+        r.flag_c = flag == 3;
+        uint8_t out[81];
+        g719_writing w;
+        r.tail_bits = 0;
+        while (w = g719_write(r, codes, G719_CODES, tail, G719_TAIL_BYTES, out, sizeof out), w.reply == G719_WRONG_TAIL)
+            r.tail_bits++;
+        CHECK(w.reply == G719_DONE && out[1] >> 4 == 8 >> flag);
+        there_and_back(&r, codes, tail);
+    }
+}
+
 static void drawn_frames(void)
 {
     for (int turn = 0; turn < 5; turn++)
@@ -434,6 +465,9 @@ static void refused_frames(void)
     read_refused(G719_SHORT_ROOM, 0, heads + 4, 1, G719_CODES, G719_TAIL_BYTES - 1);
     g719_reading r = g719_read(NULL, 0, NULL, 0, NULL, 0);
     CHECK(r.reply == G719_SHORT_ROOM && r.next == 0 && no_record(&r.record));
+    room got = marked_room();
+    CHECK(g719_read(heads, 5, NULL, 0, got.tail, G719_TAIL_BYTES).reply == G719_SHORT_ROOM && room_kept(&got));
+    CHECK(g719_read(heads, 5, got.codes, G719_CODES, NULL, 0).reply == G719_SHORT_ROOM && room_kept(&got));
     uint8_t frame[81] = { 0x20, 0x0F };
     memset(frame + 2, 0xFF, sizeof frame - 2);
     read_refused(G719_NORM_OUTSIDE, 0, frame, sizeof frame, G719_CODES, G719_TAIL_BYTES);
@@ -476,6 +510,7 @@ static void refused_records(void)
     write_refused(G719_SHORT_ROOM, r, codes, 800, tail, 319, 81);
     write_refused(G719_SHORT_ROOM, r, codes, 800, tail, 320, 80);
     write_refused(G719_SHORT_ROOM, r, NULL, 0, NULL, 0, 81);
+    CHECK(g719_write(r, codes, 800, tail, 320, NULL, 0).reply == G719_SHORT_ROOM);
     r.mode = 20;
     write_refused(G719_OUT_OF_RANGE, r, NULL, 0, NULL, 0, 0);
     r = example(true);
@@ -589,6 +624,7 @@ int main(void)
     lattice_there_and_back();
     codebook();
     frame_example();
+    flags();
     drawn_frames();
     refused_frames();
     refused_words();
