@@ -60,6 +60,7 @@ fn no_body(reply: u8, next: u8) -> Prefix
     }
 }
 
+// The cases of a prefix byte as 01's numbers.
 fn prefix_numbers(p: prefix::Prefix) -> Prefix
     ensures { λ r. ⌜ r ≡ prefixNumbers p ⌝ }
 {
@@ -77,6 +78,7 @@ fn prefix_numbers(p: prefix::Prefix) -> Prefix
     }
 }
 
+// The cases of a made byte as 01's numbers.
 fn byte_numbers(b: prefix::Byte) -> Byte
     ensures { λ r. ⌜ r ≡ byteNumbers b ⌝ }
 {
