@@ -25,12 +25,14 @@ pub struct NormPart {
 }
 
 // What legalising answers: 0 with the legal norms in band order, or 8 with zeros.
+#[repr(C)]
 pub struct Legal {
     pub reply: u8,
     pub norms: [u8; 44],
 }
 
 // What a choice of a flag answers.
+#[repr(C)]
 pub struct Choice {
     pub reply: u8,
     pub flag: bool,

@@ -1,0 +1,204 @@
+// The C interface (include/g719.h): each public call under a C name, with the whole promise of the call that it hands on to.
+ghost use mathlib.Core.Path.{_≡_};
+ghost use lib.ListN.{length};
+ghost use Rattle.prefix.specs.Prefix.{prefixOf, byteOf};
+ghost use Rattle.norms.specs.Answers.{choiceOf as flagN, legalised};
+ghost use Rattle.weights.specs.Weights.{weighed};
+ghost use Rattle.allotment.specs.Allotment.{sharesOf};
+ghost use Rattle.lattice.specs.Answers.{pointOf, indexOf};
+ghost use Rattle.codebook.specs.Codebook.{rowPoint, rowIndex};
+ghost use Rattle.frame.specs.Answers.{readAnswer, readingOf, codesAfter, tailAfter};
+ghost use Rattle.writer.specs.Writes.{writeReply, writingOf, outAfter};
+ghost use Rattle.writer.specs.Empty.{emptyReply, emptyAfter};
+ghost use Rattle.writer.specs.Choice.{choiceOf as flagC};
+ghost use Rattle.recording.specs.Walk.{checkOf};
+ghost use Rattle.g719.specs.Numbers.{prefixNumbers, byteNumbers};
+use allotment::Shares;
+use codebook::Row;
+use frame::Reading;
+use frame::Record;
+use ground::replies::DONE;
+use ground::replies::MARKED;
+use ground::replies::NO_BYTE;
+use ground::replies::NO_DATA;
+use ground::replies::OUT_OF_RANGE;
+use ground::replies::RESERVED;
+use lattice::Index;
+use lattice::Point;
+use norms::Choice;
+use norms::Legal;
+use prefix::Mode;
+use recording::answer::Check;
+use weights::Weights;
+use writer::Writing;
+
+// What a prefix byte says: the field L, the body bytes and the next place.
+#[repr(C)]
+pub struct Prefix {
+    pub reply: u8,
+    pub length: u8,
+    pub bytes: u16,
+    pub next: u8,
+}
+
+// The prefix byte of a mode.
+#[repr(C)]
+pub struct Byte {
+    pub reply: u8,
+    pub byte: u8,
+}
+
+// A prefix byte without a body; only for no data is there a next place.
+fn no_body(reply: u8, next: u8) -> Prefix
+    ensures { λ r. ⌜ r ≡ record { reply = reply; length = 0; bytes = 0; next = next } ⌝ }
+{
+    Prefix {
+        reply,
+        length: 0,
+        bytes: 0,
+        next,
+    }
+}
+
+// The cases of a prefix byte as 01's numbers.
+fn prefix_numbers(p: prefix::Prefix) -> Prefix
+    ensures { λ r. ⌜ r ≡ prefixNumbers p ⌝ }
+{
+    match p {
+        prefix::Prefix::Data(field) => Prefix {
+            reply: DONE,
+            length: field.0,
+            bytes: field.bytes(),
+            next: 1,
+        },
+        prefix::Prefix::NoData => no_body(NO_DATA, 1),
+        prefix::Prefix::NoByte => no_body(NO_BYTE, 0),
+        prefix::Prefix::Marked => no_body(MARKED, 0),
+        prefix::Prefix::Reserved => no_body(RESERVED, 0),
+    }
+}
+
+// The cases of a made byte as 01's numbers.
+fn byte_numbers(b: prefix::Byte) -> Byte
+    ensures { λ r. ⌜ r ≡ byteNumbers b ⌝ }
+{
+    match b {
+        prefix::Byte::Is(byte) => Byte { reply: DONE, byte },
+        prefix::Byte::OutOfRange => Byte {
+            reply: OUT_OF_RANGE,
+            byte: 0,
+        },
+    }
+}
+
+#[no_mangle]
+pub extern "C" fn g719_read_prefix(src: &[u8]) -> Prefix
+    ensures { λ r. ⌜ r ≡ prefixNumbers (prefixOf (now (src .entry))) ⌝ }
+{
+    prefix_numbers(prefix::read_prefix(src))
+}
+
+#[no_mangle]
+pub extern "C" fn g719_write_prefix(mode: u8) -> Byte
+    ensures { λ r. ⌜ r ≡ byteNumbers (byteOf mode) ⌝ }
+{
+    byte_numbers(prefix::write_prefix(Mode(mode)))
+}
+
+#[no_mangle]
+pub extern "C" fn g719_read(src: &[u8], codes: &mut [u16], tail: &mut [u8]) -> Reading
+    ensures { λ r. ⌜ (r ≡ readingOf (readAnswer (now (src .entry)) (length (now (codes .entry))) (length (now (tail .entry)))))
+        × (now (codes .exit) ≡ codesAfter (now (codes .entry)) (readAnswer (now (src .entry)) (length (now (codes .entry))) (length (now (tail .entry)))))
+        × (now (tail .exit) ≡ tailAfter (now (tail .entry)) (readAnswer (now (src .entry)) (length (now (codes .entry))) (length (now (tail .entry))))) ⌝ }
+{
+    frame::read(src, codes, tail)
+}
+
+#[no_mangle]
+pub extern "C" fn g719_write(record: Record, codes: &[u16], tail: &[u8], out: &mut [u8]) -> Writing
+    ensures { λ w. ⌜ (w ≡ writingOf (writeReply «record» (now (codes .entry)) (now (tail .entry)) (length (now (out .entry)))) («record» .mode))
+        × (now (out .exit) ≡ outAfter (writeReply «record» (now (codes .entry)) (now (tail .entry)) (length (now (out .entry)))) «record» (now (codes .entry)) (now (tail .entry)) (now (out .entry))) ⌝ }
+{
+    writer::write(record, codes, tail, out)
+}
+
+#[no_mangle]
+pub extern "C" fn g719_write_empty(out: &mut [u8]) -> Writing
+    ensures { λ r. ⌜ (r ≡ emptyReply (length (now (out .entry)))) × (now (out .exit) ≡ emptyAfter (now (out .entry))) ⌝ }
+{
+    writer::write_empty(out)
+}
+
+#[no_mangle]
+pub extern "C" fn g719_choose_flag_n(transient: bool, norms: &[u8; 44]) -> Choice
+    ensures { λ r. ⌜ r ≡ flagN transient (now (norms .entry)) ⌝ }
+{
+    let list = *norms;
+    norms::choose_flag_n(transient, list)
+}
+
+#[no_mangle]
+pub extern "C" fn g719_choose_flag_c(record: Record, codes: &[u16]) -> Choice
+    ensures { λ r. ⌜ r ≡ flagC «record» (now (codes .entry)) ⌝ }
+{
+    writer::choice::choose_flag_c(record, codes)
+}
+
+#[no_mangle]
+pub extern "C" fn g719_legalise(transient: bool, norms: &[u8; 44]) -> Legal
+    ensures { λ r. ⌜ r ≡ legalised transient (now (norms .entry)) ⌝ }
+{
+    let list = *norms;
+    norms::legalise(transient, list)
+}
+
+#[no_mangle]
+pub extern "C" fn g719_weigh(transient: bool, norms: &[u8; 44]) -> Weights
+    ensures { λ r. ⌜ r ≡ weighed transient (now (norms .entry)) ⌝ }
+{
+    let list = *norms;
+    weights::weigh(transient, list)
+}
+
+#[no_mangle]
+pub extern "C" fn g719_allot(transient: bool, wide: bool, norms: &[u8; 44], budget: u32) -> Shares
+    ensures { λ r. ⌜ r ≡ sharesOf transient wide (now (norms .entry)) budget ⌝ }
+{
+    let list = *norms;
+    allotment::allot(transient, wide, list, budget)
+}
+
+#[no_mangle]
+pub extern "C" fn g719_lattice_point(rate: u8, index: &[u16; 8]) -> Point
+    ensures { λ r. ⌜ r ≡ pointOf rate (now (index .entry)) ⌝ }
+{
+    lattice::lattice_point(rate, index)
+}
+
+#[no_mangle]
+pub extern "C" fn g719_codebook_point(rate: u8, index: u16) -> Point
+    ensures { λ r. ⌜ r ≡ rowPoint rate index ⌝ }
+{
+    codebook::codebook_point(rate, index)
+}
+
+#[no_mangle]
+pub extern "C" fn g719_lattice_index(rate: u8, point: &[i16; 8]) -> Index
+    ensures { λ r. ⌜ r ≡ indexOf rate (now (point .entry)) ⌝ }
+{
+    lattice::lattice_index(rate, point)
+}
+
+#[no_mangle]
+pub extern "C" fn g719_codebook_index(rate: u8, point: &[i16; 8]) -> Row
+    ensures { λ r. ⌜ r ≡ rowIndex rate (now (point .entry)) ⌝ }
+{
+    codebook::codebook_index(rate, point)
+}
+
+#[no_mangle]
+pub extern "C" fn g719_check_file(src: &[u8], booking: u32) -> Check
+    ensures { λ r. ⌜ r ≡ checkOf (now (src .entry)) booking ⌝ }
+{
+    recording::check(src, booking)
+}

@@ -1,0 +1,225 @@
+/*
+ * Stored G.719 speech frames (JT-G719, equal to ITU-T G.719, Annex A): read, written, checked; their bits shared; lattice codes
+ * mapped to points and back. Each call is proved to answer exactly what its definition says, on every input (docs/PROMISES.md).
+ *
+ * HOW TO USE IT
+ *
+ *     uint16_t codes[G719_CODES];
+ *     uint8_t tail[G719_TAIL_BYTES];
+ *     g719_reading r = g719_read(file + at, size - at, codes, G719_CODES, tail, G719_TAIL_BYTES);
+ *     if (r.reply == G719_DONE)          use r.record, codes and tail;      at += r.next;
+ *     else if (r.reply == G719_NO_DATA)  an empty frame, nothing to use;    at += r.next;
+ *     else                               the frame is not sound: r.reply says why, and nothing else was changed
+ *
+ * Link libg719.a (x86-64 Linux). It needs memcpy and memset and nothing else. It has no state and takes no heap; it never exits,
+ * waits or locks. Any number of threads may call it at once, each with its own lent memory. A call takes less than 8 KiB of stack.
+ *
+ * ANSWERS. Each call answers with a struct by value whose first field is the reply, a number from 0 to 15. With any reply but 0 all
+ * other fields are 0, save with 14 the next place, and in a g719_check always its count and place. Only 0 changes lent memory. If an
+ * input is wrong in several ways, the reply that stands first in the call's list is given. Every value of every number has an answer.
+ *
+ * LENT MEMORY. A lent slice is two parameters: a pointer and how many elements (not bytes) it has. A const slice is only read. A
+ * larger room than needed may be lent; what goes beyond the need is kept as it was.
+ *   - The elements must be there, for reading and, if not const, for writing. With count 0 the pointer is not followed and may be
+ *     NULL; with any other count it must not be.
+ *   - A pointer must be aligned as C asks of its type: uint16_t to an even address.
+ *   - A slice that is written must not overlap any other slice of the same call. Slices that are only read may overlap.
+ *   - A parameter such as `const uint8_t norms[44]` is a pointer to that many elements, which must be there: never NULL.
+ *   - A bool holds 0 or 1 and nothing else, in a struct too. A struct that was filled byte by byte must see to that.
+ * The library keeps no pointer after the call.
+ *
+ * RANGES. A mode is 0 to 19 and names a body of 80 to 320 bytes (Table 22). The field L of a prefix byte is another number for the
+ * same size: mode = L - 8. A norm index is 0 to 39, smaller is louder; norms stand in band order, lowest band first. Codes are 800
+ * numbers, one for each coefficient, in band order: by the band's rate 0 nothing, 1 one index of 8 bits in the first of each eight
+ * places, 2 to 9 a number of that many bits in each place; unused places are 0. The tail is 320 bytes, its bits from the top of the
+ * first byte on, the rest 0. Places and next places count bytes from the start of the slice lent.
+ */
+#ifndef G719_H
+#define G719_H
+
+#include <stdbool.h>
+#include <stddef.h>
+#include <stdint.h>
+
+#ifdef __cplusplus
+extern "C" {
+#endif
+
+enum {
+    G719_BANDS = 44,         /* norms, weights, scores, rates */
+    G719_CODES = 800,        /* numbers of 16 bits that a frame's codes take */
+    G719_TAIL_BYTES = 320,   /* bytes that a frame's tail takes */
+    G719_FRAME_BYTES = 321,  /* bytes of the largest stored frame, prefix byte and body */
+    G719_POINT_PLACES = 8,   /* places of a point and of a lattice index */
+    G719_MOST_BUDGET = 2560, /* the largest budget, in bits */
+    G719_MOST_FRAMES = 3000  /* the most sound frames of a recording */
+};
+
+/* The replies: each given exactly when ... */
+enum {
+    G719_DONE = 0,           /* done */
+    G719_NO_BYTE = 1,        /* no byte to read */
+    G719_MARKED = 2,         /* F is 1 */
+    G719_RESERVED = 3,       /* L is reserved */
+    G719_CUT = 4,            /* fewer body bytes than L says */
+    G719_NORM_OUTSIDE = 5,   /* read: a norm index outside 0 to 39 */
+    G719_NO_WORD = 6,        /* read: the word 1111110 in the 5-bit column */
+    G719_PAST_BUDGET = 7,    /* codes go past the budget */
+    G719_OUT_OF_RANGE = 8,   /* to write or compute: a number out of its range, or a point that no index of the rate names */
+    G719_FAR_APART = 9,      /* to write: a norm difference outside -15 to 16, in the order sent */
+    G719_SHORT_ROOM = 10,    /* lent room short: 800 numbers, 320 bytes, frame + 1 bytes */
+    G719_NOT_AS_BOOKED = 11, /* the file ended soundly, its count is not as booked */
+    G719_WIDE_CODE = 12,     /* in a record, a code too wide for its rate or an unused place not 0 */
+    G719_WRONG_TAIL = 13,    /* in a record, tail count or padding wrong */
+    G719_NO_DATA = 14,       /* L is 0: no data, no body */
+    G719_TOO_MANY = 15       /* a byte is left after 3,000 sound frames */
+};
+
+/* ---- Prefix byte */
+
+typedef struct g719_prefix {
+    uint8_t reply;
+    uint8_t length; /* the field L, 8 to 27 */
+    uint16_t bytes; /* body bytes that follow, 80 to 320 */
+    uint8_t next;   /* 1, where the body begins; with 14 where the next frame does */
+} g719_prefix;
+
+typedef struct g719_byte {
+    uint8_t reply;
+    uint8_t byte;
+} g719_byte;
+
+/* What the first byte says; the other bytes are not looked at. Replies: 1, 2, 3, 14, 0. */
+g719_prefix g719_read_prefix(const uint8_t *src, size_t src_count);
+
+/* The prefix byte of a mode. Replies: 8 for a mode over 19, 0. */
+g719_byte g719_write_prefix(uint8_t mode);
+
+/* ---- Frames */
+
+/* A frame, beside its 800 codes and 320 tail bytes. */
+typedef struct g719_record {
+    uint8_t mode;      /* 0 to 19 */
+    bool transient;    /* IsTransient */
+    bool flag_l;       /* at 80 bytes: bands 36 to 43 compete for bits */
+    bool flag_n;       /* norm differences are sent as words of Table 16 */
+    bool flag_c;       /* codes at rates 2 to 5 are sent as words of Table 20 */
+    uint8_t norms[44]; /* in band order */
+    uint8_t noise;     /* 0 to 3; 0 in a transient frame */
+    uint16_t tail_bits;
+} g719_record;
+
+typedef struct g719_reading {
+    uint8_t reply;
+    size_t next; /* where the next frame begins: body bytes + 1; 1 with 14 */
+    g719_record record;
+} g719_reading;
+
+typedef struct g719_writing {
+    uint8_t reply;
+    size_t next; /* bytes written */
+} g719_writing;
+
+/* Reads the stored frame at the start of src; what follows it is not looked at. With 0 the first 800 codes and the first 320 tail
+ * bytes are filled. Replies: 10, 1, 2, 3, 14, 4, 5, then 6 or 7, whichever is met first in reading, 0. */
+g719_reading g719_read(const uint8_t *src, size_t src_count, uint16_t *codes, size_t codes_count, uint8_t *tail, size_t tail_count);
+
+/* Writes a record as a stored frame; with 0 the first body bytes + 1 bytes of out are filled. What was read with 0 is written with
+ * 0, to the same bytes with R 0, and what was written with 0 is read with 0, to the same record. Of codes and tail the first 800
+ * numbers and 320 bytes are looked at. Replies: 8 for the mode, 10 (800 numbers, 320 bytes, body bytes + 1), 8 for noise, an index
+ * over 39 or a first index over 31, 9, 12, 7, 13, 0. */
+g719_writing g719_write(g719_record record, const uint16_t *codes, size_t codes_count, const uint8_t *tail, size_t tail_count,
+                        uint8_t *out, size_t out_count);
+
+/* Writes an empty frame, one byte 00. Replies: 10 for no room, 0. */
+g719_writing g719_write_empty(uint8_t *out, size_t out_count);
+
+/* ---- Choices for a writer */
+
+typedef struct g719_choice {
+    uint8_t reply;
+    bool flag;
+} g719_choice;
+
+typedef struct g719_norms {
+    uint8_t reply;
+    uint8_t norms[44];
+} g719_norms;
+
+/* FlagN: whether the 43 words of the differences are shorter than 43 fixed codes. Replies: 8 for an index over 39 or a first one
+ * over 31, 9, 0. */
+g719_choice g719_choose_flag_n(bool transient, const uint8_t norms[44]);
+
+/* FlagC: whether words cost less than fixed codes over the bands at rates 2 to 5. Of the record noise, tail_bits and flag_c are not
+ * looked at. Replies: 8 for the mode, 10 for under 800 numbers, 8 for an index over 39 or a first one over 31, 9, 12, 0. */
+g719_choice g719_choose_flag_c(g719_record record, const uint16_t *codes, size_t codes_count);
+
+/* The greatest norms, nowhere above the given ones, that a frame of this kind can carry. Replies: 8 for an index over 39, 0. */
+g719_norms g719_legalise(bool transient, const uint8_t norms[44]);
+
+/* ---- Sharing the bits */
+
+typedef struct g719_weights {
+    uint8_t reply;
+    uint8_t weights[44]; /* 0 to 64 */
+    int16_t scores[44];  /* 16 x (34 - index) + weight */
+} g719_weights;
+
+typedef struct g719_shares {
+    uint8_t reply;
+    uint8_t rates[44]; /* 0 to 9 */
+    uint16_t left;     /* bits of the budget that no band could take */
+} g719_shares;
+
+/* Weights and starting scores. Replies: 8 for an index over 39, 0. */
+g719_weights g719_weigh(bool transient, const uint8_t norms[44]);
+
+/* Rates and bits left; wide says whether bands 36 to 43 compete. Replies: 8 for an index over 39 or a budget over 2,560, 0. */
+g719_shares g719_allot(bool transient, bool wide, const uint8_t norms[44], uint32_t budget);
+
+/* ---- Points: the lattice at rates 2 to 9, the codebook at rate 1 */
+
+typedef struct g719_point {
+    uint8_t reply;
+    int16_t at[8];
+} g719_point;
+
+typedef struct g719_index {
+    uint8_t reply;
+    uint16_t at[8];
+} g719_index;
+
+typedef struct g719_row {
+    uint8_t reply;
+    uint8_t index;
+} g719_row;
+
+/* The point that an index names. Replies: 8 for a rate outside 2 to 9 or a number of 2^rate or more, 0. */
+g719_point g719_lattice_point(uint8_t rate, const uint16_t index[8]);
+
+/* The index that names a point. Replies: 8 for a rate outside 2 to 9 or a point that no index of the rate names, 0. */
+g719_index g719_lattice_index(uint8_t rate, const int16_t point[8]);
+
+/* The row that an index names. Replies: 8 for a rate that is not 1 or an index over 255, 0. */
+g719_point g719_codebook_point(uint8_t rate, uint16_t index);
+
+/* The index of a row. Replies: 8 for a rate that is not 1 or a point that is no row, 0. */
+g719_row g719_codebook_index(uint8_t rate, const int16_t point[8]);
+
+/* ---- Recordings */
+
+typedef struct g719_check {
+    uint8_t reply;
+    uint32_t count; /* sound frames before the stop, empty ones among them */
+    size_t place;   /* of the frame that stopped the check, or the end of the file */
+} g719_check;
+
+/* Reads every frame of a recording in full and holds their count against the booking. Stops at the first frame that is not sound,
+ * with its reply (2 to 7); 15 for a byte after 3,000 sound frames; at the end 11 if the count is not the booking, else 0. */
+g719_check g719_check_file(const uint8_t *src, size_t src_count, uint32_t booking);
+
+#ifdef __cplusplus
+}
+#endif
+
+#endif

@@ -1,0 +1,637 @@
+/* Calls every function of include/g719.h: layout of each struct, the paper's examples, every reply, what a refusal leaves alone, and
+ * frames written, read and written again. Prints how many checks passed; ends with 1 at the first that does not. */
+#include "g719.h"
+
+#include <stdio.h>
+#include <stdlib.h>
+#include <string.h>
+
+static int checks;
+
+#define CHECK(is) check((is), #is, __LINE__)
+
+static void check(bool is, const char *text, int line)
+{
+    if (!is) {
+        printf("tests/c/main.c:%d: not so: %s\n", line, text);
+        exit(1);
+    }
+    checks++;
+}
+
+/* ---- what the tests share */
+
+enum { KEPT = 0xA5, EXCESS = 9 };
+
+/* Room for a frame, larger than needed, so that the excess is seen to stay. */
+typedef struct room {
+    uint16_t codes[G719_CODES + EXCESS];
+    uint8_t tail[G719_TAIL_BYTES + EXCESS];
+    uint8_t out[G719_FRAME_BYTES + EXCESS];
+} room;
+
+static room marked_room(void)
+{
+    room r;
+    memset(&r, KEPT, sizeof r);
+    return r;
+}
+
+static bool all_bytes(const void *at, size_t count, uint8_t byte)
+{
+    const uint8_t *b = at;
+    for (size_t i = 0; i < count; i++)
+        if (b[i] != byte)
+            return false;
+    return true;
+}
+
+static bool room_kept(const room *r)
+{
+    return all_bytes(r, sizeof *r, KEPT);
+}
+
+static bool same_record(const g719_record *a, const g719_record *b)
+{
+    return a->mode == b->mode && a->transient == b->transient && a->flag_l == b->flag_l && a->flag_n == b->flag_n
+        && a->flag_c == b->flag_c && memcmp(a->norms, b->norms, sizeof a->norms) == 0 && a->noise == b->noise
+        && a->tail_bits == b->tail_bits;
+}
+
+static bool no_record(const g719_record *a)
+{
+    g719_record none;
+    memset(&none, 0, sizeof none);
+    return same_record(a, &none);
+}
+
+static uint32_t drawn_state = 719;
+
+/* A number below n, the same in every run. */
+static uint32_t drawn(uint32_t n)
+{
+    drawn_state = drawn_state * 1664525u + 1013904223u;
+    return (uint32_t)(((uint64_t)drawn_state * n) >> 32);
+}
+
+static size_t body_bytes(uint8_t mode)
+{
+    return mode < 15 ? 80 + 10u * mode : 240 + 20u * (mode - 15u);
+}
+
+/* 01's example: stationary, 80 bytes, all indices 20, FlagL 1. */
+static g719_record example(bool flag_n)
+{
+    g719_record r;
+    memset(&r, 0, sizeof r);
+    r.flag_l = true;
+    r.flag_n = flag_n;
+    memset(r.norms, 20, sizeof r.norms);
+    r.tail_bits = flag_n ? 4 : 6;
+    return r;
+}
+
+/* ---- layout */
+
+#define FIELD(type, field, offset, bytes) \
+    CHECK(offsetof(type, field) == (offset) && sizeof(((type *)0)->field) == (bytes))
+
+static void layout(void)
+{
+    CHECK(sizeof(g719_prefix) == 6 && sizeof(g719_byte) == 2 && sizeof(g719_record) == 52);
+    CHECK(sizeof(g719_reading) == 72 && sizeof(g719_writing) == 16 && sizeof(g719_choice) == 2);
+    CHECK(sizeof(g719_norms) == 45 && sizeof(g719_weights) == 134 && sizeof(g719_shares) == 48);
+    CHECK(sizeof(g719_point) == 18 && sizeof(g719_index) == 18 && sizeof(g719_row) == 2 && sizeof(g719_check) == 16);
+    FIELD(g719_prefix, length, 1, 1);
+    FIELD(g719_prefix, bytes, 2, 2);
+    FIELD(g719_prefix, next, 4, 1);
+    FIELD(g719_byte, byte, 1, 1);
+    FIELD(g719_record, mode, 0, 1);
+    FIELD(g719_record, transient, 1, 1);
+    FIELD(g719_record, flag_l, 2, 1);
+    FIELD(g719_record, flag_n, 3, 1);
+    FIELD(g719_record, flag_c, 4, 1);
+    FIELD(g719_record, norms, 5, 44);
+    FIELD(g719_record, noise, 49, 1);
+    FIELD(g719_record, tail_bits, 50, 2);
+    FIELD(g719_reading, next, 8, 8);
+    FIELD(g719_reading, record, 16, 52);
+    FIELD(g719_writing, next, 8, 8);
+    FIELD(g719_choice, flag, 1, 1);
+    FIELD(g719_norms, norms, 1, 44);
+    FIELD(g719_weights, weights, 1, 44);
+    FIELD(g719_weights, scores, 46, 88);
+    FIELD(g719_shares, rates, 1, 44);
+    FIELD(g719_shares, left, 46, 2);
+    FIELD(g719_point, at, 2, 16);
+    FIELD(g719_index, at, 2, 16);
+    FIELD(g719_row, index, 1, 1);
+    FIELD(g719_check, count, 4, 4);
+    FIELD(g719_check, place, 8, 8);
+}
+
+/* ---- prefix byte */
+
+static void prefix_read(void)
+{
+    for (unsigned b = 0; b < 256; b++) {
+        uint8_t src[2] = { (uint8_t)b, 0xFF };
+        g719_prefix p = g719_read_prefix(src, 2);
+        unsigned l = b / 4 % 32;
+        if (b >= 128)
+            CHECK(p.reply == G719_MARKED && p.length == 0 && p.bytes == 0 && p.next == 0);
+        else if (l == 0)
+            CHECK(p.reply == G719_NO_DATA && p.length == 0 && p.bytes == 0 && p.next == 1);
+        else if (l < 8 || l > 27)
+            CHECK(p.reply == G719_RESERVED && p.length == 0 && p.bytes == 0 && p.next == 0);
+        else
+            CHECK(p.reply == G719_DONE && p.length == l && p.bytes == body_bytes((uint8_t)(l - 8)) && p.next == 1);
+    }
+    g719_prefix none = g719_read_prefix(NULL, 0);
+    CHECK(none.reply == G719_NO_BYTE && none.length == 0 && none.bytes == 0 && none.next == 0);
+    uint8_t largest = 0x6C;
+    g719_prefix p = g719_read_prefix(&largest, 1);
+    CHECK(p.reply == G719_DONE && p.length == 27 && p.bytes == 320);
+}
+
+static void prefix_written(void)
+{
+    for (unsigned mode = 0; mode < 256; mode++) {
+        g719_byte b = g719_write_prefix((uint8_t)mode);
+        if (mode > 19)
+            CHECK(b.reply == G719_OUT_OF_RANGE && b.byte == 0);
+        else
+            CHECK(b.reply == G719_DONE && b.byte == (mode + 8) * 4);
+    }
+}
+
+/* ---- norms */
+
+static void flag_n(void)
+{
+    uint8_t norms[G719_BANDS];
+    memset(norms, 20, sizeof norms);
+    g719_choice c = g719_choose_flag_n(false, norms);
+    CHECK(c.reply == G719_DONE && c.flag);
+    for (int b = 0; b < G719_BANDS; b++)
+        norms[b] = b % 2 ? 15 : 0;
+    c = g719_choose_flag_n(false, norms);
+    CHECK(c.reply == G719_DONE && !c.flag);
+    norms[43] = 16;
+    CHECK(g719_choose_flag_n(false, norms).reply == G719_DONE);
+    norms[43] = 17;
+    c = g719_choose_flag_n(false, norms);
+    CHECK(c.reply == G719_FAR_APART && !c.flag);
+    norms[43] = 15;
+    norms[41] = 16;
+    CHECK(g719_choose_flag_n(false, norms).reply == G719_FAR_APART);
+    norms[0] = 32;
+    CHECK(g719_choose_flag_n(false, norms).reply == G719_OUT_OF_RANGE);
+    norms[0] = 0;
+    norms[43] = 40;
+    CHECK(g719_choose_flag_n(true, norms).reply == G719_OUT_OF_RANGE);
+}
+
+static void legal_norms(void)
+{
+    uint8_t norms[G719_BANDS];
+    memset(norms, 39, sizeof norms);
+    norms[1] = 0;
+    g719_norms n = g719_legalise(false, norms);
+    CHECK(n.reply == G719_DONE && n.norms[0] == 15 && n.norms[1] == 0 && n.norms[2] == 16 && n.norms[3] == 32);
+    CHECK(all_bytes(n.norms + 4, 40, 39));
+    n = g719_legalise(true, norms);
+    CHECK(n.reply == G719_DONE && n.norms[0] == 15 && n.norms[1] == 0 && n.norms[8] == 16 && n.norms[9] == 32);
+    CHECK(all_bytes(n.norms + 2, 6, 39) && all_bytes(n.norms + 10, 34, 39));
+    memset(norms, 35, sizeof norms);
+    n = g719_legalise(false, norms);
+    CHECK(n.reply == G719_DONE && n.norms[0] == 31 && all_bytes(n.norms + 1, 43, 35));
+    norms[43] = 40;
+    n = g719_legalise(false, norms);
+    CHECK(n.reply == G719_OUT_OF_RANGE && all_bytes(n.norms, 44, 0));
+}
+
+/* ---- sharing the bits */
+
+static void weights(void)
+{
+    static const uint8_t front[5] = { 0, 12, 25, 38, 51 };
+    uint8_t norms[G719_BANDS];
+    memset(norms, 20, sizeof norms);
+    norms[0] = 0;
+    g719_weights w = g719_weigh(false, norms);
+    CHECK(w.reply == G719_DONE && memcmp(w.weights, front, 5) == 0 && all_bytes(w.weights + 5, 39, 64));
+    CHECK(w.scores[0] == 544 && w.scores[1] == 236 && w.scores[43] == 288);
+    memset(norms, 39, sizeof norms);
+    CHECK(g719_weigh(false, norms).scores[0] == -80);
+    w = g719_weigh(true, norms);
+    for (int b = 0; b < G719_BANDS; b++)
+        CHECK(w.reply == G719_DONE && w.weights[b] <= 64 && w.scores[b] == w.weights[b] - 80);
+    norms[7] = 40;
+    w = g719_weigh(false, norms);
+    CHECK(w.reply == G719_OUT_OF_RANGE && all_bytes(w.weights, sizeof w.weights, 0) && all_bytes(w.scores, sizeof w.scores, 0));
+}
+
+static void shares(void)
+{
+    uint8_t norms[G719_BANDS];
+    memset(norms, 20, sizeof norms);
+    g719_shares s = g719_allot(false, true, norms, 414);
+    CHECK(s.reply == G719_DONE && s.rates[0] == 2 && all_bytes(s.rates + 1, 29, 1) && all_bytes(s.rates + 30, 14, 0) && s.left == 6);
+    s = g719_allot(false, true, norms, 500);
+    CHECK(s.reply == G719_DONE && all_bytes(s.rates, 34, 1) && all_bytes(s.rates + 34, 10, 0) && s.left == 4);
+    s = g719_allot(true, false, norms, G719_MOST_BUDGET);
+    CHECK(s.reply == G719_DONE && s.rates[35] > 0 && all_bytes(s.rates + 36, 8, 0));
+    s = g719_allot(false, true, norms, G719_MOST_BUDGET);
+    CHECK(s.reply == G719_DONE && s.rates[43] > 0);
+    s = g719_allot(false, true, norms, G719_MOST_BUDGET + 1);
+    CHECK(s.reply == G719_OUT_OF_RANGE && all_bytes(s.rates, 44, 0) && s.left == 0);
+    CHECK(g719_allot(false, true, norms, UINT32_MAX).reply == G719_OUT_OF_RANGE);
+    norms[0] = 40;
+    CHECK(g719_allot(false, true, norms, 414).reply == G719_OUT_OF_RANGE);
+}
+
+/* ---- points */
+
+static void lattice_examples(void)
+{
+    static const int16_t firsts[4] = { 0, 2, 4, -2 };
+    for (uint16_t k = 1; k < 4; k++) {
+        uint16_t index[8] = { k };
+        g719_point p = g719_lattice_point(2, index);
+        CHECK(p.reply == G719_DONE && p.at[0] == firsts[k] && all_bytes(p.at + 1, 14, 0));
+    }
+    uint16_t second[8] = { 0, 3 };
+    g719_point p = g719_lattice_point(2, second);
+    CHECK(p.reply == G719_DONE && p.at[0] == -1 && p.at[1] == -1 && all_bytes(p.at + 2, 12, 0));
+    uint16_t large[8] = { 0, 0, 0, 0, 0, 0, 0, 4 };
+    p = g719_lattice_point(2, large);
+    CHECK(p.reply == G719_OUT_OF_RANGE && all_bytes(p.at, sizeof p.at, 0));
+    CHECK(g719_lattice_point(1, second).reply == G719_OUT_OF_RANGE && g719_lattice_point(10, second).reply == G719_OUT_OF_RANGE);
+    int16_t odd[8] = { 1 };
+    g719_index k = g719_lattice_index(2, odd);
+    CHECK(k.reply == G719_OUT_OF_RANGE && all_bytes(k.at, sizeof k.at, 0));
+    int16_t zero[8] = { 0 };
+    CHECK(g719_lattice_index(1, zero).reply == G719_OUT_OF_RANGE && g719_lattice_index(9, zero).reply == G719_DONE);
+}
+
+static void lattice_there_and_back(void)
+{
+    for (uint8_t rate = 2; rate <= 9; rate++)
+        for (int turn = 0; turn < 200; turn++) {
+            uint16_t index[8];
+            for (int i = 0; i < 8; i++)
+                index[i] = (uint16_t)drawn(1u << rate);
+            g719_point p = g719_lattice_point(rate, index);
+            CHECK(p.reply == G719_DONE);
+            g719_index k = g719_lattice_index(rate, p.at);
+            CHECK(k.reply == G719_DONE && memcmp(k.at, index, sizeof index) == 0);
+        }
+}
+
+static void codebook(void)
+{
+    for (uint16_t n = 0; n < 256; n++) {
+        g719_point p = g719_codebook_point(1, n);
+        CHECK(p.reply == G719_DONE);
+        g719_row r = g719_codebook_index(1, p.at);
+        CHECK(r.reply == G719_DONE && r.index == n);
+    }
+    g719_point last = g719_codebook_point(1, 254);
+    for (int i = 0; i < 8; i++)
+        CHECK(last.at[i] == -1);
+    g719_point none = g719_codebook_point(1, 256);
+    CHECK(none.reply == G719_OUT_OF_RANGE && all_bytes(none.at, sizeof none.at, 0));
+    CHECK(g719_codebook_point(2, 0).reply == G719_OUT_OF_RANGE);
+    int16_t no_row[8] = { 3 };
+    g719_row r = g719_codebook_index(1, no_row);
+    CHECK(r.reply == G719_OUT_OF_RANGE && r.index == 0 && g719_codebook_index(0, last.at).reply == G719_OUT_OF_RANGE);
+}
+
+/* ---- frames */
+
+/* Reads a frame that must be sound, and sees that record, codes, tail and excess are as they should be. */
+static void read_as(const uint8_t *src, size_t count, const g719_record *record, const uint16_t *codes, const uint8_t *tail)
+{
+    room got = marked_room();
+    g719_reading r = g719_read(src, count, got.codes, G719_CODES + EXCESS, got.tail, G719_TAIL_BYTES + EXCESS);
+    CHECK(r.reply == G719_DONE && r.next == body_bytes(record->mode) + 1 && same_record(&r.record, record));
+    CHECK(memcmp(got.codes, codes, 2 * G719_CODES) == 0 && memcmp(got.tail, tail, G719_TAIL_BYTES) == 0);
+    CHECK(all_bytes(got.codes + G719_CODES, 2 * EXCESS, KEPT) && all_bytes(got.tail + G719_TAIL_BYTES, EXCESS, KEPT));
+}
+
+/* Writes a record that must be written, reads the bytes, and writes what was read. */
+static void there_and_back(const g719_record *record, const uint16_t *codes, const uint8_t *tail)
+{
+    size_t bytes = body_bytes(record->mode) + 1;
+    room made = marked_room();
+    g719_writing w = g719_write(*record, codes, G719_CODES, tail, G719_TAIL_BYTES, made.out, sizeof made.out);
+    CHECK(w.reply == G719_DONE && w.next == bytes && all_bytes(made.out + bytes, sizeof made.out - bytes, KEPT));
+    CHECK(made.out[0] == g719_write_prefix(record->mode).byte);
+    read_as(made.out, bytes, record, codes, tail);
+    made.out[0] |= 3;
+    read_as(made.out, sizeof made.out, record, codes, tail);
+    g719_check c = g719_check_file(made.out, bytes, 1);
+    CHECK(c.reply == G719_DONE && c.count == 1 && c.place == bytes);
+    c = g719_check_file(made.out, bytes - 1, 1);
+    CHECK(c.reply == G719_CUT && c.count == 0 && c.place == 0);
+}
+
+static void frame_example(void)
+{
+    static const uint8_t begin[6] = { 0x20, 0x6A, 0x6D, 0xB6, 0xDB, 0x6D };
+    g719_record r = example(true);
+    r.noise = 2;
+    uint16_t codes[G719_CODES] = { 0 };
+    uint8_t tail[G719_TAIL_BYTES] = { 0xB0 };
+    codes[0] = 255;
+    uint8_t out[81];
+    g719_writing w = g719_write(r, codes, G719_CODES, tail, G719_TAIL_BYTES, out, sizeof out);
+    CHECK(w.reply == G719_DONE && w.next == 81 && memcmp(out, begin, sizeof begin) == 0);
+    CHECK((out[80] & 0x3F) == 0x2B);
+    there_and_back(&r, codes, tail);
+}
+
+/* The codes of a frame without words, from its rates. */
+static void draw_codes(const uint8_t rates[44], uint16_t codes[G719_CODES])
+{
+    int at = 0;
+    for (int band = 0; band < G719_BANDS; band++) {
+        int length = band < 16 ? 8 : band < 24 ? 16 : band < 36 ? 24 : 32;
+        for (int i = 0; i < length; i++, at++) {
+            codes[at] = 0;
+            if (rates[band] == 1 && i % 8 == 0)
+                codes[at] = (uint16_t)drawn(256);
+            if (rates[band] > 1)
+                codes[at] = (uint16_t)drawn(1u << rates[band]);
+        }
+    }
+}
+
+static void draw_tail(unsigned bits, uint8_t tail[G719_TAIL_BYTES])
+{
+    memset(tail, 0, G719_TAIL_BYTES);
+    for (unsigned i = 0; i < bits; i++)
+        if (drawn(2))
+            tail[i / 8] |= (uint8_t)(128u >> i % 8);
+}
+
+/* A drawn record with FlagN 0 and FlagC 0, whose norm part is 220 bits. */
+static g719_record draw_record(uint8_t mode, uint16_t codes[G719_CODES], uint8_t tail[G719_TAIL_BYTES])
+{
+    g719_record r;
+    memset(&r, 0, sizeof r);
+    r.mode = mode;
+    r.transient = drawn(2);
+    r.flag_l = drawn(2);
+    r.noise = r.transient ? 0 : (uint8_t)drawn(4);
+    for (int b = 0; b < G719_BANDS; b++)
+        r.norms[b] = (uint8_t)drawn(40);
+    g719_norms legal = g719_legalise(r.transient, r.norms);
+    CHECK(legal.reply == G719_DONE && g719_choose_flag_n(r.transient, legal.norms).reply == G719_DONE);
+    memcpy(r.norms, legal.norms, sizeof r.norms);
+    uint32_t budget = (uint32_t)(8 * body_bytes(mode) - 224 - (r.transient ? 0 : 2));
+    g719_shares s = g719_allot(r.transient, mode > 0 || r.flag_l, r.norms, budget);
+    CHECK(s.reply == G719_DONE);
+    r.tail_bits = s.left;
+    draw_codes(s.rates, codes);
+    draw_tail(s.left, tail);
+    return r;
+}
+
+/* Each flag alone stands at its own bit of the body's first byte, transient at the top. */
+static void flags(void)
+{
+    static const uint16_t codes[G719_CODES];
+    static const uint8_t tail[G719_TAIL_BYTES];
+    for (int flag = 0; flag < 4; flag++) {
+        g719_record r = example(false);
+        r.transient = flag == 0;
+        r.flag_l = flag == 1;
+        r.flag_n = flag == 2;
+        r.flag_c = flag == 3;
+        uint8_t out[81];
+        g719_writing w;
+        r.tail_bits = 0;
+        while (w = g719_write(r, codes, G719_CODES, tail, G719_TAIL_BYTES, out, sizeof out), w.reply == G719_WRONG_TAIL)
+            r.tail_bits++;
+        CHECK(w.reply == G719_DONE && out[1] >> 4 == 8 >> flag);
+        there_and_back(&r, codes, tail);
+    }
+}
+
+static void drawn_frames(void)
+{
+    for (int turn = 0; turn < 5; turn++)
+        for (uint8_t mode = 0; mode < 20; mode++) {
+            uint16_t codes[G719_CODES];
+            uint8_t tail[G719_TAIL_BYTES];
+            g719_record r = draw_record(mode, codes, tail);
+            there_and_back(&r, codes, tail);
+        }
+}
+
+/* Sees that a frame is refused and that nothing lent is changed. */
+static void read_refused(uint8_t reply, size_t next, const uint8_t *src, size_t count, size_t codes, size_t tail)
+{
+    room got = marked_room();
+    g719_reading r = g719_read(src, count, got.codes, codes, got.tail, tail);
+    CHECK(r.reply == reply && r.next == next && no_record(&r.record) && room_kept(&got));
+}
+
+/* Norms for which band 0 has rate 5 in an 80-byte stationary frame with FlagN 0. */
+static g719_record five_bits(void)
+{
+    g719_record r = example(false);
+    r.flag_c = true;
+    g719_shares s;
+    do {
+        r.norms[0]--;
+        s = g719_allot(false, true, r.norms, 414);
+    } while (s.rates[0] != 5);
+    return r;
+}
+
+static void refused_frames(void)
+{
+    static const uint8_t heads[5] = { 0x20, 0x04, 0x80, 0x70, 0x00 };
+    read_refused(G719_CUT, 0, heads, 1, G719_CODES, G719_TAIL_BYTES);
+    read_refused(G719_RESERVED, 0, heads + 1, 1, G719_CODES, G719_TAIL_BYTES);
+    read_refused(G719_MARKED, 0, heads + 2, 1, G719_CODES, G719_TAIL_BYTES);
+    read_refused(G719_RESERVED, 0, heads + 3, 1, G719_CODES, G719_TAIL_BYTES);
+    read_refused(G719_NO_DATA, 1, heads + 4, 1, G719_CODES, G719_TAIL_BYTES);
+    read_refused(G719_NO_BYTE, 0, NULL, 0, G719_CODES, G719_TAIL_BYTES);
+    read_refused(G719_SHORT_ROOM, 0, heads + 4, 1, G719_CODES - 1, G719_TAIL_BYTES);
+    read_refused(G719_SHORT_ROOM, 0, heads + 4, 1, G719_CODES, G719_TAIL_BYTES - 1);
+    g719_reading r = g719_read(NULL, 0, NULL, 0, NULL, 0);
+    CHECK(r.reply == G719_SHORT_ROOM && r.next == 0 && no_record(&r.record));
+    room got = marked_room();
+    CHECK(g719_read(heads, 5, NULL, 0, got.tail, G719_TAIL_BYTES).reply == G719_SHORT_ROOM && room_kept(&got));
+    CHECK(g719_read(heads, 5, got.codes, G719_CODES, NULL, 0).reply == G719_SHORT_ROOM && room_kept(&got));
+    uint8_t frame[81] = { 0x20, 0x0F };
+    memset(frame + 2, 0xFF, sizeof frame - 2);
+    read_refused(G719_NORM_OUTSIDE, 0, frame, sizeof frame, G719_CODES, G719_TAIL_BYTES);
+}
+
+/* Words of band 0 begin at byte 28 of the body: 4 flags and 220 norm bits come before. */
+static void refused_words(void)
+{
+    g719_record r = five_bits();
+    uint16_t codes[G719_CODES] = { 0 };
+    uint8_t tail[G719_TAIL_BYTES] = { 0 };
+    uint8_t out[81];
+    g719_writing w;
+    r.tail_bits = 0;
+    while (w = g719_write(r, codes, G719_CODES, tail, G719_TAIL_BYTES, out, sizeof out), w.reply == G719_WRONG_TAIL)
+        r.tail_bits++;
+    CHECK(w.reply == G719_DONE && r.tail_bits > 6);
+    there_and_back(&r, codes, tail);
+    out[29] = 0xFC;
+    read_refused(G719_NO_WORD, 0, out, sizeof out, G719_CODES, G719_TAIL_BYTES);
+    memset(out + 29, 0xFF, 52);
+    read_refused(G719_PAST_BUDGET, 0, out, sizeof out, G719_CODES, G719_TAIL_BYTES);
+}
+
+/* Sees that a record is refused and that nothing lent is changed. */
+static void write_refused(uint8_t reply, g719_record r, const uint16_t *codes, size_t codes_count, const uint8_t *tail,
+                          size_t tail_count, size_t out_count)
+{
+    room made = marked_room();
+    g719_writing w = g719_write(r, codes, codes_count, tail, tail_count, made.out, out_count);
+    CHECK(w.reply == reply && w.next == 0 && room_kept(&made));
+}
+
+static void refused_records(void)
+{
+    uint16_t codes[G719_CODES] = { 0 };
+    uint8_t tail[G719_TAIL_BYTES] = { 0 };
+    g719_record r = example(true);
+    write_refused(G719_SHORT_ROOM, r, codes, 799, tail, 320, 81);
+    write_refused(G719_SHORT_ROOM, r, codes, 800, tail, 319, 81);
+    write_refused(G719_SHORT_ROOM, r, codes, 800, tail, 320, 80);
+    write_refused(G719_SHORT_ROOM, r, NULL, 0, NULL, 0, 81);
+    CHECK(g719_write(r, codes, 800, tail, 320, NULL, 0).reply == G719_SHORT_ROOM);
+    r.mode = 20;
+    write_refused(G719_OUT_OF_RANGE, r, NULL, 0, NULL, 0, 0);
+    r = example(true);
+    r.noise = 4;
+    write_refused(G719_OUT_OF_RANGE, r, codes, 800, tail, 320, 81);
+    r.noise = 1;
+    r.transient = true;
+    write_refused(G719_OUT_OF_RANGE, r, codes, 800, tail, 320, 81);
+    r = example(true);
+    r.norms[43] = 40;
+    write_refused(G719_OUT_OF_RANGE, r, codes, 800, tail, 320, 81);
+    r.norms[43] = 37;
+    write_refused(G719_FAR_APART, r, codes, 800, tail, 320, 81);
+    r = example(true);
+    r.tail_bits = 5;
+    write_refused(G719_WRONG_TAIL, r, codes, 800, tail, 320, 81);
+    r.tail_bits = 4;
+    tail[0] = 0x08;
+    write_refused(G719_WRONG_TAIL, r, codes, 800, tail, 320, 81);
+    codes[0] = 256;
+    write_refused(G719_WIDE_CODE, r, codes, 800, tail, 320, 81);
+    codes[0] = 0;
+    codes[1] = 1;
+    write_refused(G719_WIDE_CODE, r, codes, 800, tail, 320, 81);
+}
+
+static void empty_frames(void)
+{
+    room made = marked_room();
+    g719_writing w = g719_write_empty(made.out, 0);
+    CHECK(w.reply == G719_SHORT_ROOM && w.next == 0 && room_kept(&made));
+    CHECK(g719_write_empty(NULL, 0).reply == G719_SHORT_ROOM);
+    w = g719_write_empty(made.out, sizeof made.out);
+    CHECK(w.reply == G719_DONE && w.next == 1 && made.out[0] == 0 && all_bytes(made.out + 1, sizeof made.out - 1, KEPT));
+}
+
+/* FlagC with band 0 at rate 5: the words of small numbers are shorter than five bits, those of large ones longer. */
+static void flag_c(void)
+{
+    g719_record r = five_bits();
+    uint16_t codes[G719_CODES] = { 0 };
+    g719_choice c = g719_choose_flag_c(r, codes, G719_CODES);
+    CHECK(c.reply == G719_DONE && c.flag);
+    for (int i = 0; i < 8; i++)
+        codes[i] = 16;
+    r.noise = 200;
+    r.tail_bits = 60000;
+    c = g719_choose_flag_c(r, codes, G719_CODES);
+    CHECK(c.reply == G719_DONE && !c.flag);
+    uint8_t tail[G719_TAIL_BYTES] = { 0 };
+    r.noise = 0;
+    r.tail_bits = 0;
+    write_refused(G719_PAST_BUDGET, r, codes, 800, tail, 320, 81);
+    codes[0] = 32;
+    c = g719_choose_flag_c(r, codes, G719_CODES);
+    CHECK(c.reply == G719_WIDE_CODE && !c.flag);
+    r.norms[43] = 37;
+    CHECK(g719_choose_flag_c(r, codes, G719_CODES).reply == G719_FAR_APART);
+    r.norms[43] = 40;
+    CHECK(g719_choose_flag_c(r, codes, G719_CODES).reply == G719_OUT_OF_RANGE);
+    CHECK(g719_choose_flag_c(r, codes, G719_CODES - 1).reply == G719_SHORT_ROOM);
+    CHECK(g719_choose_flag_c(r, NULL, 0).reply == G719_SHORT_ROOM);
+    r.mode = 20;
+    CHECK(g719_choose_flag_c(r, NULL, 0).reply == G719_OUT_OF_RANGE);
+}
+
+/* ---- recordings */
+
+static bool checked(const uint8_t *src, size_t count, uint32_t booking, uint8_t reply, uint32_t frames, size_t place)
+{
+    g719_check c = g719_check_file(src, count, booking);
+    return c.reply == reply && c.count == frames && c.place == place;
+}
+
+static void recordings(void)
+{
+    static const uint8_t zeros[G719_MOST_FRAMES + 1];
+    static const uint8_t cut[2] = { 0x00, 0x20 };
+    CHECK(checked(cut, 2, 1, G719_CUT, 1, 1));
+    CHECK(checked(NULL, 0, 0, G719_DONE, 0, 0));
+    CHECK(checked(NULL, 0, 1, G719_NOT_AS_BOOKED, 0, 0));
+    CHECK(checked(zeros, 3000, 3000, G719_DONE, 3000, 3000));
+    CHECK(checked(zeros, 3000, UINT32_MAX, G719_NOT_AS_BOOKED, 3000, 3000));
+    CHECK(checked(zeros, 3001, 3000, G719_TOO_MANY, 3000, 3000));
+    uint8_t file[1000];
+    size_t at = 0;
+    uint16_t codes[G719_CODES];
+    uint8_t tail[G719_TAIL_BYTES];
+    for (uint8_t mode = 0; mode < 6; mode++) {
+        g719_record r = draw_record(mode, codes, tail);
+        at += g719_write(r, codes, G719_CODES, tail, G719_TAIL_BYTES, file + at, sizeof file - at).next;
+        at += g719_write_empty(file + at, sizeof file - at).next;
+    }
+    CHECK(at == 642 && checked(file, at, 12, G719_DONE, 12, 642));
+    CHECK(checked(file, 641, 12, G719_NOT_AS_BOOKED, 11, 641));
+    CHECK(checked(file, 640, 12, G719_CUT, 10, 510));
+    file[82] = 0x80;
+    CHECK(checked(file, at, 12, G719_MARKED, 2, 82));
+}
+
+int main(void)
+{
+    layout();
+    prefix_read();
+    prefix_written();
+    flag_n();
+    legal_norms();
+    weights();
+    shares();
+    lattice_examples();
+    lattice_there_and_back();
+    codebook();
+    frame_example();
+    flags();
+    drawn_frames();
+    refused_frames();
+    refused_words();
+    refused_records();
+    empty_frames();
+    flag_c();
+    recordings();
+    printf("%d\n", checks);
+    return 0;
+}
