@@ -47,6 +47,10 @@ pub record Laid (s : List ℕ) (at : ℕ) (t s′ : List ℕ) (next : ℕ) : Typ
   pub after : next ≡ at + length t
   pub bytes : s′ ≡ laidText s at t
 
+pub laid-none : (s : List ℕ) → Laid s 0 [] s 0
+unfolding laidText
+laid-none s = record { after = refl; bytes = refl }
+
 module _ {s t s′ : List ℕ} {at next : ℕ} (l : Laid s at t s′ next) where
   pub laid-long : length s′ ≡ length s
   laid-long = ap length (l .bytes) ∙ length-laid s at t

@@ -1,3 +1,6 @@
 pub mod Text
 pub mod Laying
 pub mod Numbers
+pub mod Listing
+pub mod Lengths
+pub mod Turns
