@@ -4,3 +4,4 @@ pub mod Numbers
 pub mod Listing
 pub mod Lengths
 pub mod Turns
+pub mod Whole

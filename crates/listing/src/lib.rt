@@ -4,7 +4,7 @@ ghost use Prim.Native.Nat.{_+_, _-_, _≤_, _<_};
 ghost use lib.ListN.{length};
 ghost use Rattle.listing.specs.Text.{digits, decimal, frameLine, totalLine};
 ghost use Rattle.listing.specs.Laying.{Laid};
-ghost use Rattle.listing.specs.Listing.{room};
+ghost use Rattle.listing.specs.Listing.{room, listedIn, outAfter};
 ghost use Rattle.listing.specs.Turns.{madeLines, Complete};
 ghost use Rattle.recording.specs.Walk.{madeCheck};
 use ground::replies::DONE;
@@ -13,6 +13,9 @@ use ground::replies::TOO_MANY;
 
 // The most sound frames of a recording.
 const MOST_FRAMES: usize = 3000;
+
+// The most bytes of an input.
+const MOST_BYTES: usize = 65536;
 
 // Room for every listing: 3,000 lines of 11 bytes and a total of 30.
 pub const ROOM: usize = 33030;
@@ -166,4 +169,29 @@ fn put_lines(src: &[u8], out: &mut [u8]) -> Lines
         count += 1;
     }
     made_lines(DONE, count, place, next)
+}
+
+// Lists a recording: 10 if the room is short; else 0, and the text is at the front of the output. An input over 65,536 bytes has one line.
+pub fn list(src: &[u8], out: &mut [u8]) -> Listing
+    ensures { λ r. ⌜ (r ≡ listedIn (now (src .entry)) (length (now (out .entry)))) × (now (out .exit) ≡ outAfter (now (src .entry)) (now (out .entry))) ⌝ }
+{
+    if out.len() < ROOM {
+        return Listing {
+            reply: SHORT_ROOM,
+            length: 0,
+        };
+    }
+    if MOST_BYTES < src.len() {
+        let n = put(out, 0, b"input too long\n");
+        return Listing {
+            reply: DONE,
+            length: n,
+        };
+    }
+    let all = put_lines(src, out);
+    let n = put_total(out, all.next, all.count, all.reply, all.place);
+    Listing {
+        reply: DONE,
+        length: n,
+    }
 }
