@@ -4,8 +4,10 @@ use mathlib.Core.Path.{_≡_, refl, sym, ap, ap₂, _∙_, subst}
 use mathlib.Core.List.{List, _++_}
 use Prim.Native.Nat.{ℕ, _+_, _≤_, _<_}
 use native.Mathlib.Omega.{arith}
-use borrow.Author.Tests.{lt-ltb, le-ltb}
+use borrow.Author.Tests.{lt-ltb, le-ltb, ltb-false}
+use lib.Dec.{ltb}
 use lib.ListN.{length, drop}
+use Rattle.ground.specs.Cases.{by-bool}
 use Rattle.ground.specs.Replies.{done, shortRoom}
 use Rattle.recording.specs.Walk.{walk, mostFrames}
 use Rattle.listing.specs.Text.{totalLine, tooLong}
@@ -27,6 +29,15 @@ pub record Kept (src out out′ : List ℕ) (r : Listing) : Type 0 where
 pub no-room : (src out : List ℕ) → length out < room → Kept src out out (madeListing shortRoom 0)
 unfolding listedIn outAfter
 no-room src out h = record { answer = rw (lt-ltb (length out) room h); bytes = rw (lt-ltb (length out) room h) }
+
+-- the length that is answered lies within the output
+pub listed-within : (src : List ℕ) (n : ℕ) (r : Listing) → r ≡ listedIn src n → r .length ≤ n
+unfolding listedIn
+listed-within src n r e =
+    let l = ap (λ (z : Listing). z .length) e in
+    by-bool (ltb n room)
+    (λ t. let l′ = rw t at l in omega arith)
+    (λ t. let h = ltb-false n room t in let l′ = rw t at l in omega (arith, listing-short src))
 
 pub all-laid : (src out out′ : List ℕ) (n : ℕ) → room ≤ length out → Laid out 0 (listingOf src) out′ n → Kept src out out′ (madeListing done n)
 unfolding listedIn outAfter
