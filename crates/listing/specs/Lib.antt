@@ -5,3 +5,5 @@ pub mod Listing
 pub mod Lengths
 pub mod Turns
 pub mod Whole
+pub mod Examples
+pub mod Counted

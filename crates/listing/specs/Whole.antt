@@ -47,11 +47,12 @@ all-laid src out out′ n h l =
       bytes = rw (le-ltb (length out) room h) (l .bytes ∙ laid-front out (listingOf src) (omega (arith, listing-short src)));
     }
 
-listing-long : (src : List ℕ) → mostBytes < length src → listingOf src ≡ tooLong
+-- the equations of a listing: one line for an input that is too long, else the lines and the total line
+pub listing-long : (src : List ℕ) → mostBytes < length src → listingOf src ≡ tooLong
 unfolding listingOf
 listing-long src h = rw (lt-ltb mostBytes (length src) h)
 
-listing-lines : (src : List ℕ) → length src ≤ mostBytes → listingOf src ≡ lines mostFrames 0 src ++ totalOf (walk mostFrames src)
+pub listing-lines : (src : List ℕ) → length src ≤ mostBytes → listingOf src ≡ lines mostFrames 0 src ++ totalOf (walk mostFrames src)
 unfolding listingOf
 listing-lines src h = rw (le-ltb mostBytes (length src) h)
 
