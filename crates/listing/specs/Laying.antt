@@ -47,9 +47,9 @@ pub record Laid (s : List ℕ) (at : ℕ) (t s′ : List ℕ) (next : ℕ) : Typ
   pub after : next ≡ at + length t
   pub bytes : s′ ≡ laidText s at t
 
-pub laid-none : (s : List ℕ) → Laid s 0 [] s 0
+pub laid-none : (s : List ℕ) (next : ℕ) → next ≡ 0 → Laid s 0 [] s next
 unfolding laidText
-laid-none s = record { after = refl; bytes = refl }
+laid-none s next e = record { after = e; bytes = refl }
 
 module _ {s t s′ : List ℕ} {at next : ℕ} (l : Laid s at t s′ next) where
   pub laid-long : length s′ ≡ length s

@@ -6,13 +6,13 @@ use mathlib.Core.List.{List, [], _∷_, _++_, append-nil, append-assoc}
 use Prim.Native.Nat.{ℕ, zero, suc, _+_, _-_, _*_, _≤_, _<_}
 use native.Mathlib.Omega.{arith}
 use lib.ListN.{length, take, drop, length-append, length-drop}
-use lib.Seq.{drop-drop}
+use lib.Seq.{take-all, drop-drop}
 use Rattle.ground.specs.Replies.{done, tooMany}
 use Rattle.prefix.specs.Sizes.{modeBytes}
 use Rattle.frame.specs.Answers.{Outcome, refused, empty, sound, readAnswer, readingOf}
 use Rattle.frame.specs.declared.Reading.{Reading}
 use Rattle.recording.specs.Walk.{storedAt, madeCheck, stopped, ahead, ahead-stopped, walk, mostFrames, isSound, Fits, stored-fits, walk-end, walk-full, walk-refused}
-use Rattle.recording.specs.Turns.{Passed, passed-none, passed-more, rest}
+use Rattle.recording.specs.Turns.{Passed, passed-none, passed-more}
 use Rattle.recording.specs.declared.answer.Check.{Check}
 use Rattle.listing.specs.Text.{frameLine}
 use Rattle.listing.specs.Laying.{laidText, Laid, then, laid-long, laid-none}
@@ -33,9 +33,14 @@ pub record Listed (src out₀ out : List ℕ) (next count place : ℕ) : Type 0 
   pub laid : Laid out₀ 0 text out next
   pub whole : lines mostFrames 0 src ≡ text ++ lines (mostFrames - count) count (drop place src)
 
-pub listed-none : (src out : List ℕ) → Listed src out out 0 0 0
-listed-none src out =
-    record { passed = passed-none src 0 0 refl refl; text = []; laid = laid-none out; whole = refl }
+pub listed-none : (src out : List ℕ) (next count place : ℕ) → next ≡ 0 → count ≡ 0 → place ≡ 0 → Listed src out out next count place
+listed-none src out next count place en ec ep =
+    record {
+      passed = passed-none src place count ep ec;
+      text = [];
+      laid = laid-none out next en;
+      whole = ap₂ (λ (k n : ℕ). lines (mostFrames - k) k (drop n src)) (sym ec) (sym ep);
+    }
 
 -- all lines are put
 pub record Complete (src out₀ out : List ℕ) (r : Lines) : Type 0 where
@@ -69,6 +74,10 @@ stop-next n s h (refused x) e q = (walk-refused n s h x e, λ rest. refl)
 stop-next n s h empty e q = absurd (omega arith)
 stop-next n s h (sound mode x) e q = absurd (omega arith)
 
+-- the part of the source that is lent
+lent : (s : List ℕ) (at : ℕ) → take (length s - at) (drop at s) ≡ drop at s
+lent s at = take-all (length s - at) (drop at s) (omega (arith, length-drop at s))
+
 module _ (src out₀ out : List ℕ) (next count place : ℕ) (p : Listed src out₀ out next count place) where
   answered : (n : ℕ) → mostFrames - count ≡ n → (x : ℕ) → walk n (drop place src) ≡ stopped x → walk mostFrames src ≡ madeCheck x count place
   answered n e x w =
@@ -97,7 +106,7 @@ module _ (src out₀ out : List ℕ) (next count place : ℕ) (p : Listed src ou
     told : r ≡ readingOf (storedAt (drop place src))
     unfolding storedAt
     told =
-        e ∙ ap (λ (x : List ℕ). readingOf (readAnswer x codes tail)) (rest src place)
+        e ∙ ap (λ (x : List ℕ). readingOf (readAnswer x codes tail)) (lent src place)
         ∙ ap₂ (λ (c t : ℕ). readingOf (readAnswer (drop place src) c t)) ec et
 
     told-reply : r .reply ≡ readingOf (storedAt (drop place src)) .reply

@@ -18,7 +18,7 @@ abbrev μ-loop : tie.MeasureT-loop
 μ-loop src out₀ codes₀ tail₀ next₀ count₀ place₀ out codes tail next count place = 3000 - count
 
 loop-holds : tie.Need-loop-holds Inv-loop μ-loop
-loop-holds c = (listed-none _ _, search needs, search needs)
+loop-holds c = (listed-none _ _ _ _ _ (omega arith) (omega arith) (omega arith), search needs, search needs)
 
 made-lines-requires : tie.Need-made-lines-requires Inv-loop μ-loop
 made-lines-requires c κs = search needs
