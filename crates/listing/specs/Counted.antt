@@ -1,9 +1,9 @@
 -- How many lines a listing has: one for each sound frame, one more for a refused frame and none for a byte after 3,000, and the total line.
 -- Assumes nothing.
-use mathlib.Core.Path.{_≡_, refl, sym, ap, ap₂, _∙_}
+use mathlib.Core.Path.{_≡_, refl, ap, ap₂, _∙_}
 use mathlib.Core.Bool.{Bool, true, false, cond}
 use mathlib.Core.List.{List, [], _∷_, _++_}
-use Prim.Native.Nat.{ℕ, zero, suc, _+_, _/_, _%_, _≤_, _<_}
+use Prim.Native.Nat.{ℕ, zero, suc, _+_, _/_, _%_, _≤_}
 use native.Mathlib.Omega.{arith}
 use borrow.Author.Tests.{ne-eqb}
 use lib.Dec.{eqb, ltb}
@@ -13,7 +13,7 @@ use Rattle.prefix.specs.Sizes.{modeBytes}
 use Rattle.frame.specs.Answers.{Outcome, refused, empty, sound}
 use Rattle.recording.specs.Walk.{storedAt, onward, walk, mostFrames, Fits, stored-fits}
 use Rattle.recording.specs.declared.answer.Check.{Check}
-use Rattle.listing.specs.Text.{digit, digits, decimalBy, decimal, space, newline, totalText, answerText, atText, frameLine, totalLine}
+use Rattle.listing.specs.Text.{digit, digits, decimalBy, decimal, frameLine, totalLine}
 use Rattle.listing.specs.Listing.{lineOf, lines, totalOf, mostBytes, listingOf}
 use Rattle.listing.specs.Whole.{listing-lines}
 

@@ -1,13 +1,12 @@
 -- The listings that 01 prints.
 -- Assumes nothing.
 use mathlib.Core.Path.{_≡_, refl}
-use mathlib.Core.List.{List, [], _∷_, _++_}
-use Prim.Native.Nat.{ℕ}
+use mathlib.Core.List.{[], _∷_, _++_}
 use Rattle.prefix.specs.Sizes.{tableA2, lengthBytes}
 use Rattle.prefix.specs.Prefix.{prefixOf, prefixByte}
 use Rattle.frame.specs.Answers.{readAnswer}
 use Rattle.recording.specs.Walk.{storedAt, onward, walk}
-use Rattle.listing.specs.Text.{space, newline, totalText, answerText, atText, digits, decimalBy, decimal, frameLine, totalLine}
+use Rattle.listing.specs.Text.{newline, totalText, answerText, atText, digits, decimalBy, decimal, frameLine, totalLine}
 use Rattle.listing.specs.Listing.{lineOf, lines, listingOf}
 
 -- 00 00: 0000 14 0, 0001 14 0, total 2 answer 0 at 2

@@ -3,7 +3,7 @@
 -- Assumes nothing.
 use mathlib.Core.Path.{_≡_, refl, sym, ap, ap₂, _∙_}
 use mathlib.Core.List.{List, [], _∷_, _++_}
-use Prim.Native.Nat.{ℕ, zero, suc, _+_, _-_, _≤_, _<_}
+use Prim.Native.Nat.{ℕ, suc, _+_, _-_, _≤_, _<_}
 use native.Mathlib.Nat.{add-zero, suc-add, add-suc}
 use native.Mathlib.Numerals.{add-one}
 use native.Mathlib.Omega.{arith}
@@ -62,13 +62,6 @@ module _ {s t s′ : List ℕ} {at next : ℕ} (l : Laid s at t s′ next) where
         after = omega (arith, m .after, l .after, length-append t u);
         bytes = m .bytes ∙ ap₂ (λ (x : List ℕ) (k : ℕ). laidText x k u) (l .bytes) (l .after) ∙ laid-append s at t u;
       }
-
-  -- the room that is left for it
-  pub room : (u : List ℕ) → at + length (t ++ u) ≤ length s → next + length u ≤ length s′
-  room u h = omega (arith, l .after, laid-long, length-append t u)
-
-pub room-first : (at n : ℕ) (t u : List ℕ) → at + length (t ++ u) ≤ n → at + length t ≤ n
-room-first at n t u h = omega (arith, length-append t u)
 
 -- ---- a text put byte after byte
 

@@ -1,21 +1,20 @@
 -- How long a listing is: a line has at most 11 bytes, the total line at most 30, so every listing fits its room.
 -- Assumes nothing.
-use mathlib.Core.Path.{_≡_, refl, sym, ap, ap₂, _∙_, subst}
-use mathlib.Core.Bool.{cond}
+use mathlib.Core.Path.{_≡_, refl, sym, ap, subst}
 use mathlib.Core.List.{List, [], _∷_, _++_, append-nil}
 use Prim.Native.Nat.{ℕ, zero, suc, _+_, _-_, _*_, _≤_, _<_}
 use native.Mathlib.Omega.{arith}
-use borrow.Author.Tests.{ltb-true, ltb-false}
+use borrow.Author.Tests.{ltb-false}
 use lib.Dec.{ltb}
 use lib.ListN.{length, drop, length-append}
 use Rattle.ground.specs.Cases.{by-bool}
-use Rattle.ground.specs.Replies.{done, noData, tooMany}
+use Rattle.ground.specs.Replies.{done}
 use Rattle.prefix.specs.Sizes.{modeBytes, mode-bounds}
 use Rattle.frame.specs.Answers.{Outcome, refused, empty, sound, readingOf}
 use Rattle.recording.specs.Walk.{storedAt, walk, mostFrames, Fits, stored-fits}
-use Rattle.recording.specs.Told.{Stop, ended, passed, met, Told, walk-told}
+use Rattle.recording.specs.Told.{Stop, ended, passed, met, walk-told}
 use Rattle.recording.specs.declared.answer.Check.{Check}
-use Rattle.listing.specs.Text.{decimal, frameLine, totalLine, tooLong}
+use Rattle.listing.specs.Text.{frameLine}
 use Rattle.listing.specs.Numbers.{length-decimal, length-line, length-total}
 use Rattle.listing.specs.Listing.{lineOf, lines, totalOf, mostBytes, listingOf, room}
 
@@ -56,11 +55,11 @@ lines-full number s = refl
 
 -- ---- the lengths
 
--- what a frame's line prints
-pub small : (s : List ℕ) (o : Outcome) → Fits s o → (readingOf o .reply < 100) × (readingOf o .next - 1 ≤ 320)
-small s (refused x) f = (omega (arith, f .1), omega arith)
-small s empty f = (omega arith, omega arith)
-small s (sound mode x) f = (omega arith, omega (arith, mode-bounds mode (f .0) .1))
+-- a body has at most 320 bytes
+pub small : (s : List ℕ) (o : Outcome) → Fits s o → readingOf o .next - 1 ≤ 320
+small s (refused x) f = omega arith
+small s empty f = omega arith
+small s (sound mode x) f = omega (arith, mode-bounds mode (f .0) .1)
 
 line-short : (number : ℕ) (s : List ℕ) (o : Outcome) → Fits s o → length (lineRead number o) ≤ 11
 line-short number s (refused x) f =

@@ -1,15 +1,15 @@
 -- The laws of a number's digits.
 -- Assumes nothing.
-use mathlib.Core.Path.{_≡_, refl, sym, ap, ap₂, _∙_}
+use mathlib.Core.Path.{_≡_, refl, sym, ap, _∙_}
 use mathlib.Core.List.{List, [], _∷_, _++_}
-use Prim.Native.Nat.{ℕ, zero, suc, _+_, _-_, _*_, _/_, _%_, _^_, _≤_, _<_}
+use Prim.Native.Nat.{ℕ, zero, suc, _+_, _-_, _/_, _%_, _^_, _≤_, _<_}
 use native.Mathlib.Nat.{pow-suc}
 use native.Mathlib.Omega.{arith}
 use borrow.Author.Tests.{ltb-true, ltb-false, lt-ltb, le-ltb}
 use lib.Dec.{ltb}
 use lib.ListN.{length, set, length-append, length-set}
 use Rattle.ground.specs.Cases.{by-bool}
-use Rattle.listing.specs.Text.{digit, digits, four, decimalBy, decimal, space, newline, totalText, answerText, atText, frameLine, totalLine}
+use Rattle.listing.specs.Text.{digit, digits, decimalBy, decimal, frameLine, totalLine}
 use Rattle.listing.specs.Laying.{laidText, Laid, laid-last}
 
 pub length-digits : (k n : ℕ) → length (digits k n) ≡ k

@@ -1,23 +1,22 @@
 -- The turns of the listing's loop: so many sound frames in front, and their lines laid at the front of the output.
 -- Assumes nothing.
 use mathlib.Core.Path.{_≡_, refl, sym, ap, ap₂, _∙_}
-use mathlib.Core.Bool.{Bool, true}
-use mathlib.Core.List.{List, [], _∷_, _++_, append-nil, append-assoc}
-use Prim.Native.Nat.{ℕ, zero, suc, _+_, _-_, _*_, _≤_, _<_}
+use mathlib.Core.Bool.{true}
+use mathlib.Core.List.{List, [], _++_, append-nil, append-assoc}
+use Prim.Native.Nat.{ℕ, suc, _+_, _-_, _≤_, _<_}
 use native.Mathlib.Omega.{arith}
 use lib.ListN.{length, take, drop, length-append, length-drop}
 use lib.Seq.{take-all, drop-drop}
 use Rattle.ground.specs.Replies.{done, tooMany}
-use Rattle.prefix.specs.Sizes.{modeBytes}
 use Rattle.frame.specs.Answers.{Outcome, refused, empty, sound, readAnswer, readingOf}
 use Rattle.frame.specs.declared.Reading.{Reading}
-use Rattle.recording.specs.Walk.{storedAt, madeCheck, stopped, ahead, ahead-stopped, walk, mostFrames, isSound, Fits, stored-fits, walk-end, walk-full, walk-refused}
+use Rattle.recording.specs.Walk.{storedAt, madeCheck, stopped, ahead, ahead-stopped, walk, mostFrames, isSound, stored-fits, walk-end, walk-full, walk-refused}
 use Rattle.recording.specs.Turns.{Passed, passed-none, passed-more}
 use Rattle.recording.specs.declared.answer.Check.{Check}
 use Rattle.listing.specs.Text.{frameLine}
 use Rattle.listing.specs.Laying.{laidText, Laid, then, laid-long, laid-none}
 use Rattle.listing.specs.Listing.{lines, room}
-use Rattle.listing.specs.Lengths.{lineRead, behind, lines-some, lines-end, lines-full, lines-short, small}
+use Rattle.listing.specs.Lengths.{behind, lines-some, lines-end, lines-full, lines-short, small}
 use Rattle.listing.specs.declared.Lines.{Lines}
 
 abbrev pub madeLines : Check → ℕ → Lines
@@ -132,7 +131,7 @@ module _ (src out₀ out : List ℕ) (next count place : ℕ) (p : Listed src ou
         ∙ ap₂ (λ (x k : ℕ). frameLine count x (k - 1) ++ more) (sym told-reply) (sym told-next)
 
     pub listed-small : r .next - 1 ≤ 320
-    listed-small = omega (arith, told-next, small (drop place src) (storedAt (drop place src)) (stored-fits (drop place src) here) .1)
+    listed-small = omega (arith, told-next, small (drop place src) (storedAt (drop place src)) (stored-fits (drop place src) here))
 
     module _ (bytes : ℕ) (eb : bytes ≡ r .next - 1) where
       whole : lines mostFrames 0 src

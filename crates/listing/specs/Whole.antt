@@ -1,20 +1,20 @@
 -- The whole listing: the lines and the total line behind them, or the one line for an input that is too long, or no room.
 -- Assumes nothing.
-use mathlib.Core.Path.{_≡_, refl, sym, ap, ap₂, _∙_, subst}
+use mathlib.Core.Path.{_≡_, sym, ap, _∙_, subst}
 use mathlib.Core.List.{List, _++_}
 use Prim.Native.Nat.{ℕ, _+_, _≤_, _<_}
 use native.Mathlib.Omega.{arith}
 use borrow.Author.Tests.{lt-ltb, le-ltb, ltb-false}
 use lib.Dec.{ltb}
-use lib.ListN.{length, drop}
+use lib.ListN.{length}
 use Rattle.ground.specs.Cases.{by-bool}
 use Rattle.ground.specs.Replies.{done, shortRoom}
 use Rattle.recording.specs.Walk.{walk, mostFrames}
 use Rattle.listing.specs.Text.{totalLine, tooLong}
-use Rattle.listing.specs.Laying.{laidText, Laid, then, laid-front, length-laid}
+use Rattle.listing.specs.Laying.{Laid, then, laid-front, length-laid}
 use Rattle.listing.specs.Listing.{lines, totalOf, mostBytes, listingOf, room, listedIn, outAfter}
 use Rattle.listing.specs.Lengths.{walk-bounded, lines-short, total-short, listing-short}
-use Rattle.listing.specs.Turns.{linesOf, Complete}
+use Rattle.listing.specs.Turns.{Complete}
 use Rattle.listing.specs.declared.Lines.{Lines}
 use Rattle.listing.specs.declared.Listing.{Listing}
 

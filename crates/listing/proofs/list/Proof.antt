@@ -1,9 +1,6 @@
 -- `listing::list` meets its contract: the lines, the total line behind them. Assumes nothing.
-use mathlib.Core.Path.{_≡_}
-use Prim.Native.Nat.{_≤_, _<_}
 use native.Mathlib.Omega.{arith}
 use denote.Ref.{now}
-use lib.ListN.{length}
 use Rattle.listing.specs.Whole.{no-room, long-laid, total-room, total-laid}
 use borrow.Author.Needs.{needs}
 use Rattle.listing.proofs.list.Statement.{statement}

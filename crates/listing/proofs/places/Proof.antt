@@ -1,9 +1,6 @@
 -- `listing::places` meets its contract, by the number of digits. Assumes nothing.
-use borrow.Author.Needs.{needs}
-use Prim.Native.Nat.{ℕ, _+_, _-_, _≤_, _<_}
+use Prim.Native.Nat.{_-_}
 use native.Mathlib.Omega.{arith}
-use denote.Ref.{now}
-use lib.ListN.{length}
 use Rattle.listing.specs.Numbers.{width-one, width}
 use Rattle.listing.proofs.places.Statement.{statement}
 use Rattle.listing.proofs.places.Tie as tie

@@ -1,7 +1,6 @@
 -- `listing::put` meets its contract: the bytes so far are laid. Assumes nothing.
 use borrow.Author.Needs.{needs}
-use Prim.Native.Nat.{ℕ, _+_, _-_, _≤_, _<_}
-use native.Mathlib.Omega.{arith}
+use Prim.Native.Nat.{_-_}
 use denote.Ref.{now}
 use lib.ListN.{length}
 use Rattle.listing.specs.Laying.{Putting, put-start, put-turn, put-end}

@@ -1,9 +1,7 @@
 -- `listing::put_digits` meets its contract: the digits that are left, laid, make the text. Assumes nothing.
 use borrow.Author.Needs.{needs}
-use Prim.Native.Nat.{ℕ, _+_, _-_, _≤_, _<_}
-use native.Mathlib.Omega.{arith}
+use Prim.Native.Nat.{_-_}
 use denote.Ref.{now}
-use lib.ListN.{length}
 use Rattle.listing.specs.Numbers.{Digits, digits-start, digits-turn, digits-end}
 use Rattle.listing.proofs.put_digits.Statement.{statement}
 use Rattle.listing.proofs.put_digits.Tie as tie

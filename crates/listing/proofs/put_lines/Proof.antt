@@ -1,13 +1,12 @@
 -- `listing::put_lines` meets its contract: each turn puts the line of one frame behind the lines so far. Assumes nothing.
 use borrow.Author.Needs.{needs}
-use mathlib.Core.Path.{_≡_, sym, ap, subst, _∙_}
-use Prim.Native.Nat.{ℕ, _+_, _-_, _≤_, _<_}
+use mathlib.Core.Path.{_≡_, sym, subst, _∙_}
+use Prim.Native.Nat.{_-_}
 use native.Mathlib.Omega.{arith}
 use denote.Ref.{now}
 use lib.ListN.{length}
 use Rattle.listing.specs.Laying.{laid-long}
 use Rattle.listing.specs.Turns.{Listed, Complete, listed-none, listed-full, listed-end, listed-small, listed-room, listed-stop, listed-more}
-use Rattle.listing.specs.declared.Lines.{Lines}
 use Rattle.listing.proofs.put_lines.Statement.{statement}
 use Rattle.listing.proofs.put_lines.Tie as tie
 
