@@ -1,0 +1,59 @@
+-- The lines of a listing (01, Lister) as bytes: numbers as digits, the line of a frame, the total line.
+-- Assumes nothing.
+use mathlib.Core.Bool.{cond}
+use mathlib.Core.List.{List, [], _∷_, _++_}
+use Prim.Native.Nat.{ℕ, zero, suc, _+_, _/_, _%_}
+use lib.Dec.{ltb}
+
+-- a number below ten
+abbrev pub digit : ℕ → ℕ
+digit d = 48 + d
+
+-- the last k digits of n, the first at the front
+unfoldable pub digits : ℕ → ℕ → List ℕ
+digits zero n = []
+digits (suc k) n = digits k (n / 10) ++ (digit (n % 10) ∷ [])
+
+-- four digits, zeros in front
+abbrev pub four : ℕ → List ℕ
+four n = digits 4 n
+
+-- as many digits as n has, at most k of them; 0 has one
+unfoldable pub decimalBy : ℕ → ℕ → List ℕ
+decimalBy zero n = []
+decimalBy (suc k) n = cond (ltb n 10) (digit n ∷ []) (decimalBy k (n / 10) ++ (digit (n % 10) ∷ []))
+
+-- all digits of n, without zeros in front: n has no more than n + 1
+unfoldable pub decimal : ℕ → List ℕ
+decimal n = decimalBy (suc n) n
+
+abbrev pub space : List ℕ
+space = 32 ∷ []
+
+abbrev pub newline : List ℕ
+newline = 10 ∷ []
+
+-- "total "
+abbrev pub totalText : List ℕ
+totalText = 116 ∷ 111 ∷ 116 ∷ 97 ∷ 108 ∷ 32 ∷ []
+
+-- " answer "
+abbrev pub answerText : List ℕ
+answerText = 32 ∷ 97 ∷ 110 ∷ 115 ∷ 119 ∷ 101 ∷ 114 ∷ 32 ∷ []
+
+-- " at "
+abbrev pub atText : List ℕ
+atText = 32 ∷ 97 ∷ 116 ∷ 32 ∷ []
+
+-- "input too long" and a newline
+abbrev pub tooLong : List ℕ
+tooLong = 105 ∷ 110 ∷ 112 ∷ 117 ∷ 116 ∷ 32 ∷ 116 ∷ 111 ∷ 111 ∷ 32 ∷ 108 ∷ 111 ∷ 110 ∷ 103 ∷ 10 ∷ []
+
+-- a frame's four-digit number, its reply and its body bytes
+unfoldable pub frameLine : ℕ → ℕ → ℕ → List ℕ
+frameLine number reply bytes = four number ++ (space ++ (decimal reply ++ (space ++ (decimal bytes ++ newline))))
+
+-- how many sound frames, the reply and its place
+unfoldable pub totalLine : ℕ → ℕ → ℕ → List ℕ
+totalLine count reply place =
+    totalText ++ (decimal count ++ (answerText ++ (decimal reply ++ (atText ++ (decimal place ++ newline)))))
