@@ -7,12 +7,12 @@ use mathlib.Core.Path.{_≡_, refl, sym, ap, _∙_, subst}
 use mathlib.Core.Bool.{Bool, true, false, cond, _&&_}
 use mathlib.Core.List.{List, [], _∷_, map}
 use mathlib.Core.Logic.{_⊎_, inl, inr}
-use Prim.Native.Nat.{ℕ, zero, suc, _+_, _-_, _*_, _^_, _≤_}
+use Prim.Native.Nat.{ℕ, zero, suc, _+_, _-_, _*_, _^_, _≤_, _<_}
 use native.Mathlib.Omega.{arith}
 use lib.Dec.{T, eqb, ltb, leb}
 use lib.IntN.{ℤ}
 use lib.ListN.{length, getD, take}
-use borrow.Author.Tests.{ne-eqb}
+use borrow.Author.Tests.{ne-eqb, lt-ltb}
 use Rattle.ground.specs.Indices.{inRange}
 use Rattle.ground.specs.Replies.{done, outOfRange, farApart, shortRoom, cut, wideCode, pastBudget, wrongTail}
 use Rattle.bits.specs.Bits.{view, bitsOf}
@@ -49,6 +49,8 @@ use Rattle.writer.specs.Empty.{emptyReply, emptyAfter}
 use Rattle.writer.specs.Writes.{firstOf, kindsFor, budgetFor, earlyReply, lateReply, writeReply, outAfter}
 use Rattle.writer.specs.Choice.{plain, startReply, choiceReply, choiceOf as flagC}
 use Rattle.writer.specs.declared.Writing.{Writing as Written}
+use Rattle.listing.specs.Listing.{listedIn, outAfter as listed}
+use Rattle.listing.specs.declared.Listing.{Listing}
 use Rattle.recording.specs.Walk.{checkOf}
 use Rattle.recording.specs.Checked.{Number, check-replies}
 use Rattle.promises.specs.Numbers.{among, OneOf, picked}
@@ -185,6 +187,16 @@ number-one x (inr (inr (inr e))) = subst (OneOf checking) (sym e) tt
 
 pub check-number : (src : List ℕ) (booking : ℕ) → OneOf checking (checkOf src booking .reply)
 check-number src booking = number-one (checkOf src booking .reply) (check-replies src booking)
+
+-- ---- a listing: 0, 10
+
+pub list-number : (src : List ℕ) (room : ℕ) → OneOf (0 ∷ 10 ∷ []) (listedIn src room .reply)
+unfolding among listedIn
+list-number src room = picked (λ (l : Listing). OneOf (0 ∷ 10 ∷ []) (l .reply)) (ltb room 33030) _ _ tt tt
+
+pub list-keeps : (src out : List ℕ) → length out < 33030 → listed src out ≡ out
+unfolding listed
+list-keeps src out h = rw (lt-ltb (length out) 33030 h)
 
 -- ---- the prefix byte: read 0, 1, 2, 3, 14; written 0, 8
 

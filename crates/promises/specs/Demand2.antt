@@ -11,7 +11,7 @@ use lib.Dec.{ltb}
 use lib.IntN.{ℤ}
 use lib.ListN.{length, getD, take, drop, length-append}
 use lib.Seq.{take-at}
-use Rattle.ground.specs.Replies.{done, cut, shortRoom}
+use Rattle.ground.specs.Replies.{done, cut, noWord, pastBudget, shortRoom}
 use Rattle.bits.specs.Bits.{bitsOf, bytesOf, Bytes}
 use Rattle.bits.specs.Bytes.{bits-bytes, length-bytes}
 use Rattle.bits.specs.Codings.{Answer, got, no}
@@ -33,6 +33,8 @@ use Rattle.lattice.specs.Answers.{pointOf, indexOf, noPoint, noIndex}
 use Rattle.lattice.specs.OneToOne as lattice
 use Rattle.codebook.specs.Codebook.{rowPoint, rowIndex, noRow}
 use Rattle.codebook.specs.OneToOne as codebook
+use Rattle.frame.proofs.PlainCodes as reading
+use Rattle.writer.proofs.PlainCodes as writing
 use Rattle.promises.specs.Numbers.{picked}
 
 -- ---- Write back a frame that was read: its bytes return, with R zero
@@ -134,6 +136,13 @@ read-exactly mode x f rest codes tail hm hx k l hc ht =
     ∙ ap₂ readBody e (take-at b rest n lb)
     ∙ ap₂ (λ (i : ℕ) (y : List Bool). outcome mode (frame (i * 8) .read y)) lb (bits-bytes n w l ∙ sym (append-nil w))
     ∙ ap (outcome mode) (frame (n * 8) .back f [] k zero-le)
+
+-- With FlagC 0 there is neither 6 nor 7 in reading, nor 7 in writing: the allotment keeps to Ψ
+pub plain-read : (src : List ℕ) (codes tail x : ℕ) → getD (bitsOf (drop 1 src)) 3 false ≡ false → readAnswer src codes tail ≡ refused x → (x ≡ noWord → ⊥) × (x ≡ pastBudget → ⊥)
+plain-read = reading.plain-read
+
+pub plain-write : (r : Record) (cs ts : List ℕ) (room : ℕ) → r .«flag_c» ≡ false → length (r .norms) ≡ 44 → writeReply r cs ts room ≡ pastBudget → ⊥
+plain-write = writing.plain-write
 
 -- ---- At rates 2–9 lattice indices and points match one to one; any other point is refused
 

@@ -6,7 +6,6 @@ use mathlib.Core.List.{List, [], _∷_, _++_}
 use Prim.Native.Nat.{ℕ, _+_, _*_}
 use lib.IntN.{pos, negsuc}
 use lib.ListN.{length, take, drop, replicate}
-use Rattle.ground.specs.Replies.{done}
 use Rattle.bits.specs.Bits.{word, val, bytesOf}
 use Rattle.bits.specs.Codings.{wordOf}
 use Rattle.bits.specs.Codecs.{writeAll}
@@ -28,13 +27,15 @@ use Rattle.frame.specs.Answers.{readAnswer, readingOf, stoppedAt}
 use Rattle.writer.specs.Writes.{total, frameOf, bytesFor}
 use Rattle.writer.specs.Bodies.{bodyBits, body-is}
 use Rattle.frame.specs.declared.Record.{Record}
-use Rattle.recording.specs.Walk.{checkOf}
+use Rattle.listing.specs.Text.{frameLine, totalLine}
+use Rattle.listing.specs.Listing.{lineOf, lines, listingOf}
+use Rattle.recording.specs.Walk.{storedAt, onward, walk, checkOf}
 use Rattle.recording.specs.Stars as recording
 
--- all that stands in a list of claims
-abbrev pub All : List {1} (Type 0) → Type 0
-All [] = Unit {0}
-All (A ∷ As) = A × All As
+-- all that stands in a list of claims holds
+pub data All : List {1} (Type 0) → Type 1 where
+  done : All []
+  also : {A : Type 0} {As : List {1} (Type 0)} → A → All As → All (A ∷ As)
 
 -- ---- what the examples speak of
 
@@ -67,6 +68,8 @@ starred =
     ∷ (prefixReading (prefixOf (0x70 ∷ [])) ≡ record { reply = 3; field = 0; bytes = 0; next = 0 })
     -- File check of 00 20: one sound frame, reply 4 at place 1
     ∷ ((booking : ℕ) → checkOf (0x00 ∷ 0x20 ∷ []) booking ≡ record { reply = 4; count = 1; place = 1 })
+    -- The lister ends it with 0001 4 0, total 1 answer 4 at 1
+    ∷ (listingOf (0x00 ∷ 0x20 ∷ []) ≡ frameLine 0 14 0 ++ frameLine 1 4 0 ++ totalLine 1 4 1)
     -- Stationary, 80 bytes, all indices 20, FlagN 0, FlagL 1: Ψ 414; rate 2 for band 0, 1 for 1–29, else 0; 6 left
     ∷ (budgetOf 640 (flags false) twenties ≡ 414)
     ∷ (sharesOf false (wideIn 640 true) twenties 414 ≡ record { reply = 0; rates = 2 ∷ replicate 29 1 ++ replicate 14 0; left = 6 })
@@ -88,6 +91,10 @@ starred =
 prefix-20 : readingOf (readAnswer (0x20 ∷ []) 800 320) ≡ stoppedAt 4 0
 unfolding readAnswer prefixOf prefixByte tableA2 lengthBytes
 prefix-20 = refl
+
+listed-00-20 : listingOf (0x00 ∷ 0x20 ∷ []) ≡ frameLine 0 14 0 ++ frameLine 1 4 0 ++ totalLine 1 4 1
+unfolding listingOf lines lineOf walk onward storedAt readAnswer prefixOf prefixByte tableA2 lengthBytes
+listed-00-20 = refl
 
 psi-414 : budgetOf 640 (flags false) twenties ≡ 414
 unfolding budgetOf spare word wordOf writeAll coding sent numbers normKinds normBits
@@ -119,49 +126,21 @@ begins noise bits codes tail =
 
 pub claimed : All starred
 unfolding starred
-claimed = (
-  prefix-20,
-  (
-    prefix.star-04,
-    (
-      prefix.star-80,
-      (
-        prefix.star-6C,
-        (
-          prefix.star-70,
-          (
-            recording.star-00-20,
-            (
-              psi-414,
-              (
-                ap (λ (b : Bool). sharesOf false b twenties 414) wide-80 ∙ allotment.starred .0,
-                (
-                  psi-500,
-                  (
-                    ap (λ (b : Bool). sharesOf false b twenties 500) wide-80 ∙ allotment.starred .1,
-                    (
-                      begins,
-                      (
-                        weights.starred,
-                        (
-                          lattice.stars .0,
-                          (
-                            lattice.stars .1,
-                            (
-                              lattice.stars .2,
-                              (lattice.stars .3, tt),
-                            ),
-                          ),
-                        ),
-                      ),
-                    ),
-                  ),
-                ),
-              ),
-            ),
-          ),
-        ),
-      ),
-    ),
-  ),
-)
+claimed =
+    also prefix-20
+    (also prefix.star-04
+    (also prefix.star-80
+    (also prefix.star-6C
+    (also prefix.star-70
+    (also recording.star-00-20
+    (also listed-00-20
+    (also psi-414
+    (also (ap (λ (b : Bool). sharesOf false b twenties 414) wide-80 ∙ allotment.starred .0)
+    (also psi-500
+    (also (ap (λ (b : Bool). sharesOf false b twenties 500) wide-80 ∙ allotment.starred .1)
+    (also begins
+    (also weights.starred
+    (also (lattice.stars .0)
+    (also (lattice.stars .1)
+    (also (lattice.stars .2)
+    (also (lattice.stars .3) done))))))))))))))))
