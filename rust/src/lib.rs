@@ -1,7 +1,10 @@
-//! Stored G.719 frames: reading, writing, the allotment of their bits, the
-//! mapping of lattice codes to points, a file check and a lister.
+//! Stored G.719 frames: the proved library, and a plain implementation of the
+//! same paper to hold it against.
+#![deny(unsafe_code)]
 
+pub mod calls;
 pub mod cases;
+pub mod library;
 pub mod random;
 pub mod reference;
 pub mod types;
