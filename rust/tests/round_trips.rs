@@ -1,13 +1,13 @@
-//! Reader and writer undo each other, and refusals leave lent rooms alone.
+//! Reader and writer of each side undo each other, and refusals leave lent
+//! rooms alone.
 
+use g719::calls::{Calls, LIBRARY, REFERENCE};
 use g719::cases::{empty_case, read_case, write_case, ReadCase, WriteCase};
-use g719::reference::{read, write, write_empty};
 use g719::types::{Reading, Record, Writing};
 
 const SEEDS: std::ops::Range<u64> = 0..20_000;
 
-#[test]
-fn write_after_read_gives_the_bytes() {
+fn write_after_read_gives_the_bytes(calls: &Calls) {
     let mut sound = 0;
     for seed in SEEDS {
         let ReadCase {
@@ -16,7 +16,7 @@ fn write_after_read_gives_the_bytes() {
             mut tail,
         } = read_case(seed);
         let (lent_codes, lent_tail) = (codes.clone(), tail.clone());
-        let reading = read(&src, &mut codes, &mut tail);
+        let reading = (calls.read)(&src, &mut codes, &mut tail);
         if reading.reply != 0 {
             let next = usize::from(reading.reply == 14);
             let record = Record::ZERO;
@@ -37,7 +37,7 @@ fn write_after_read_gives_the_bytes() {
             (&lent_codes[800..], &lent_tail[320..])
         );
         let mut out = [0xa5; 330];
-        let writing = write(&reading.record, &codes, &tail, &mut out);
+        let writing = (calls.write)(&reading.record, &codes, &tail, &mut out);
         assert_eq!((writing.reply, writing.next), (0, reading.next));
         assert_eq!(
             (out[0], &out[1..writing.next]),
@@ -48,8 +48,7 @@ fn write_after_read_gives_the_bytes() {
     assert!(sound > 5000);
 }
 
-#[test]
-fn read_after_write_gives_the_parts() {
+fn read_after_write_gives_the_parts(calls: &Calls) {
     let mut sound = 0;
     for seed in SEEDS {
         let WriteCase {
@@ -59,7 +58,7 @@ fn read_after_write_gives_the_parts() {
             mut out,
         } = write_case(seed);
         let lent = out.clone();
-        let writing = write(&record, &codes, &tail, &mut out);
+        let writing = (calls.write)(&record, &codes, &tail, &mut out);
         if writing.reply != 0 {
             assert_eq!(writing.next, 0);
             assert_eq!(out, lent);
@@ -68,7 +67,7 @@ fn read_after_write_gives_the_parts() {
         sound += 1;
         assert_eq!(out[writing.next..], lent[writing.next..]);
         let (mut read_codes, mut read_tail) = ([9; 800], [9; 320]);
-        let reading = read(&out, &mut read_codes, &mut read_tail);
+        let reading = (calls.read)(&out, &mut read_codes, &mut read_tail);
         assert_eq!(
             (reading.reply, reading.next, reading.record),
             (0, writing.next, record)
@@ -78,12 +77,11 @@ fn read_after_write_gives_the_parts() {
     assert!(sound > 3000);
 }
 
-#[test]
-fn empty_frames_are_one_byte() {
+fn empty_frames_are_one_byte(calls: &Calls) {
     for seed in 0..100 {
         let mut out = empty_case(seed);
         let lent = out.clone();
-        let writing = write_empty(&mut out);
+        let writing = (calls.write_empty)(&mut out);
         if lent.is_empty() {
             assert_eq!(writing, Writing { reply: 10, next: 0 });
         } else {
@@ -91,4 +89,20 @@ fn empty_frames_are_one_byte() {
             assert_eq!((out[0], &out[1..]), (0, &lent[1..]));
         }
     }
+}
+
+fn round_trips(calls: &Calls) {
+    write_after_read_gives_the_bytes(calls);
+    read_after_write_gives_the_parts(calls);
+    empty_frames_are_one_byte(calls);
+}
+
+#[test]
+fn of_the_library() {
+    round_trips(&LIBRARY);
+}
+
+#[test]
+fn of_the_reference() {
+    round_trips(&REFERENCE);
 }
