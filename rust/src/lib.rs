@@ -8,3 +8,5 @@ pub mod library;
 pub mod random;
 pub mod reference;
 pub mod types;
+
+pub use reference::reply;
