@@ -6,12 +6,12 @@ use g719::random::Random;
 use g719::types::{Record, COEFFICIENTS, TAIL_BYTES};
 use g719::{library, reference};
 use std::hint::black_box;
-use std::time::Instant;
+use std::time::{Duration, Instant};
 
 /// Inputs of a call.
 const INPUTS: usize = 600;
-/// How often each batch of inputs is measured on each side.
-const ROUNDS: usize = 40;
+/// How long a call is measured; each batch of inputs has many rounds in it.
+const LONG: Duration = Duration::from_millis(1200);
 /// About how long a batch takes, in nanoseconds: short, so that some round
 /// has it to itself on a machine that does other work.
 const BATCH: f64 = 1e5;
@@ -53,7 +53,7 @@ impl Times {
         let of_call = |times: &[f64]| times.iter().sum::<f64>() / inputs as f64;
         let (library, reference) = (of_call(&self.library), of_call(&self.reference));
         println!(
-            "{call:22} {library:12.1} {reference:12.1} {:8.2}",
+            "{call:24} {library:12.1} {reference:12.1} {:8.2}",
             library / reference
         );
     }
@@ -70,7 +70,8 @@ macro_rules! compare {
         let passes = (BATCH / all) as usize + 1;
         let size = inputs.len().div_ceil(batches);
         let mut times = Times::new(inputs.len().div_ceil(size));
-        for _ in 0..ROUNDS {
+        let start = Instant::now();
+        while start.elapsed() < LONG {
             for (at, batch) in inputs.chunks(size).enumerate() {
                 let library = time(batch, passes, |$case| {
                     black_box(library::$function($($argument),*));
@@ -218,7 +219,7 @@ fn machine() -> String {
 fn main() {
     println!("{}", machine());
     println!(
-        "{:22} {:>12} {:>12} {:>8}",
+        "{:24} {:>12} {:>12} {:>8}",
         "ns per call", "library", "reference", "ratio"
     );
     compare_frame_calls(&frames());
