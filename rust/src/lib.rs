@@ -1,0 +1,12 @@
+//! Stored G.719 frames: the proved library, and a plain implementation of the
+//! same paper to hold it against.
+#![deny(unsafe_code)]
+
+pub mod calls;
+pub mod cases;
+pub mod library;
+pub mod random;
+pub mod reference;
+pub mod types;
+
+pub use reference::reply;

@@ -1,0 +1,140 @@
+//! Writing a stored frame, and the FlagC choice.
+
+use super::allotment::share;
+use super::bits::BitWriter;
+use super::budget::{budget, wide, NOISE_BITS};
+use super::codes::{check_codes, code_bits, put_codes, Codes, Rates};
+use super::norms::{norm_bits, put_norms, steps, Steps};
+use super::prefix::{frame_bytes, write_prefix};
+use super::reply;
+use crate::types::{Choice, Record, Writing, COEFFICIENTS, TAIL_BYTES};
+
+/// What follows from a record's mode, flags and norms.
+pub(crate) struct Plan {
+    pub(crate) steps: Steps,
+    pub(crate) budget: u32,
+    pub(crate) rates: Rates,
+}
+
+/// The plan of a record, or reply 8 or 9.
+pub(crate) fn plan(record: &Record) -> Result<Plan, u8> {
+    let bytes = frame_bytes(record.mode)?;
+    let steps = steps(record.transient, &record.norms)?;
+    let budget = budget(bytes, record.transient, norm_bits(record.flag_n, &steps));
+    let wide = wide(record.mode, record.flag_l);
+    let (rates, _) = share(record.transient, wide, &record.norms, budget);
+    Ok(Plan { steps, budget, rates })
+}
+
+/// Reply 8 for a noise over 3 or, in a transient frame, over 0.
+fn check_noise(record: &Record) -> Result<(), u8> {
+    let largest = if record.transient { 0 } else { 3 };
+    if record.noise > largest {
+        return Err(reply::NOT_ALLOWED);
+    }
+    Ok(())
+}
+
+/// Reply 13 unless the tail has `count` bits and only 0 after them.
+fn check_tail(record: &Record, count: u32, tail: &[u8; TAIL_BYTES]) -> Result<(), u8> {
+    let (whole, part) = (count as usize / 8, count % 8);
+    let mut padding = tail[whole..].iter();
+    let in_part = match part {
+        0 => 0,
+        _ => padding.next().map_or(0, |byte| byte << part),
+    };
+    if u32::from(record.tail_bits) != count || in_part != 0 || padding.any(|&byte| byte != 0) {
+        return Err(reply::TAIL);
+    }
+    Ok(())
+}
+
+/// Writes the prefix and the body of a frame that was found sound.
+fn put_frame(record: &Record, plan: &Plan, codes: &Codes, tail: &[u8; TAIL_BYTES], out: &mut [u8]) {
+    out[0] = write_prefix(record.mode).byte;
+    let mut bits = BitWriter::new(&mut out[1..]);
+    bits.put_flag(record.transient);
+    bits.put_flag(record.flag_l);
+    bits.put_flag(record.flag_n);
+    bits.put_flag(record.flag_c);
+    put_norms(&mut bits, record.norms[0], record.flag_n, &plan.steps);
+    put_codes(&mut bits, &plan.rates, record.flag_c, codes);
+    if !record.transient {
+        bits.put(u16::from(record.noise), NOISE_BITS);
+    }
+    bits.put_bits(usize::from(record.tail_bits), tail);
+    bits.finish();
+}
+
+/// Checks all in the paper's order, then writes. Gives the next place.
+fn write_frame(record: &Record, codes: &[u16], tail: &[u8], out: &mut [u8]) -> Result<usize, u8> {
+    let next = frame_bytes(record.mode)? + 1;
+    let (Some(codes), Some(tail), Some(out)) = (
+        codes.first_chunk::<COEFFICIENTS>(),
+        tail.first_chunk::<TAIL_BYTES>(),
+        out.get_mut(..next),
+    ) else {
+        return Err(reply::ROOM_SHORT);
+    };
+    check_noise(record)?;
+    let plan = plan(record)?;
+    check_codes(&plan.rates, codes)?;
+    let used = code_bits(&plan.rates, record.flag_c, codes);
+    let left = plan.budget.checked_sub(used).ok_or(reply::PAST_BUDGET)?;
+    check_tail(record, left, tail)?;
+    put_frame(record, &plan, codes, tail, out);
+    Ok(next)
+}
+
+/// Writes a frame from the first 800 numbers of `codes` and the first 320
+/// bytes of `tail`.
+pub fn write(record: &Record, codes: &[u16], tail: &[u8], out: &mut [u8]) -> Writing {
+    match write_frame(record, codes, tail, out) {
+        Ok(next) => Writing {
+            reply: reply::DONE,
+            next,
+        },
+        Err(reply) => Writing { reply, next: 0 },
+    }
+}
+
+/// Writes an empty frame.
+pub fn write_empty(out: &mut [u8]) -> Writing {
+    match out.first_mut() {
+        Some(byte) => {
+            *byte = 0;
+            Writing {
+                reply: reply::DONE,
+                next: 1,
+            }
+        }
+        None => Writing {
+            reply: reply::ROOM_SHORT,
+            next: 0,
+        },
+    }
+}
+
+/// Whether words cost less than fixed codes.
+fn words_cost_less(record: &Record, codes: &[u16]) -> Result<bool, u8> {
+    frame_bytes(record.mode)?;
+    let codes = codes.first_chunk::<COEFFICIENTS>().ok_or(reply::ROOM_SHORT)?;
+    let plan = plan(record)?;
+    check_codes(&plan.rates, codes)?;
+    // Bands outside rates 2–5 cost the same on both sides.
+    let in_words = code_bits(&plan.rates, true, codes);
+    let fixed = code_bits(&plan.rates, false, codes);
+    Ok(in_words < fixed)
+}
+
+/// FlagC is 1 exactly when words cost less than fixed codes over the bands
+/// at rates 2–5. The record's noise, tail count and FlagC are not read.
+pub fn choose_flag_c(record: &Record, codes: &[u16]) -> Choice {
+    match words_cost_less(record, codes) {
+        Ok(flag) => Choice {
+            reply: reply::DONE,
+            flag,
+        },
+        Err(reply) => Choice { reply, flag: false },
+    }
+}

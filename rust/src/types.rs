@@ -1,0 +1,139 @@
+//! The answers of the calls, laid out as in C. Every `reply` is a number of
+//! the paper's table.
+
+/// Bands of a frame.
+pub const BANDS: usize = 44;
+/// Numbers of a frame, one per coefficient.
+pub const COEFFICIENTS: usize = 800;
+/// Bytes that hold a tail.
+pub const TAIL_BYTES: usize = 320;
+
+/// A prefix byte: its L (`length`), the body bytes L names and the next place.
+#[repr(C)]
+#[derive(Clone, Copy, Debug, PartialEq, Eq)]
+pub struct Prefix {
+    pub reply: u8,
+    pub length: u8,
+    pub bytes: u16,
+    pub next: u8,
+}
+
+/// A written prefix byte.
+#[repr(C)]
+#[derive(Clone, Copy, Debug, PartialEq, Eq)]
+pub struct Byte {
+    pub reply: u8,
+    pub byte: u8,
+}
+
+/// What a frame holds beside its codes and its tail; norms in band order.
+#[repr(C)]
+#[derive(Clone, Copy, Debug, PartialEq, Eq)]
+pub struct Record {
+    pub mode: u8,
+    pub transient: bool,
+    pub flag_l: bool,
+    pub flag_n: bool,
+    pub flag_c: bool,
+    pub norms: [u8; BANDS],
+    pub noise: u8,
+    pub tail_bits: u16,
+}
+
+/// A frame that was read, and the place after it.
+#[repr(C)]
+#[derive(Clone, Copy, Debug, PartialEq, Eq)]
+pub struct Reading {
+    pub reply: u8,
+    pub next: usize,
+    pub record: Record,
+}
+
+/// The place after a written frame.
+#[repr(C)]
+#[derive(Clone, Copy, Debug, PartialEq, Eq)]
+pub struct Writing {
+    pub reply: u8,
+    pub next: usize,
+}
+
+/// A chosen FlagN or FlagC.
+#[repr(C)]
+#[derive(Clone, Copy, Debug, PartialEq, Eq)]
+pub struct Choice {
+    pub reply: u8,
+    pub flag: bool,
+}
+
+/// Legalised norms in band order.
+#[repr(C)]
+#[derive(Clone, Copy, Debug, PartialEq, Eq)]
+pub struct Norms {
+    pub reply: u8,
+    pub norms: [u8; BANDS],
+}
+
+/// Weights and scores of the bands, in sixteenths.
+#[repr(C)]
+#[derive(Clone, Copy, Debug, PartialEq, Eq)]
+pub struct Weights {
+    pub reply: u8,
+    pub weights: [u8; BANDS],
+    pub scores: [i16; BANDS],
+}
+
+/// Rates of the bands and the bits left.
+#[repr(C)]
+#[derive(Clone, Copy, Debug, PartialEq, Eq)]
+pub struct Shares {
+    pub reply: u8,
+    pub rates: [u8; BANDS],
+    pub left: u16,
+}
+
+/// A point of the lattice or of the rate-1 codebook.
+#[repr(C)]
+#[derive(Clone, Copy, Debug, PartialEq, Eq)]
+pub struct Point {
+    pub reply: u8,
+    pub at: [i16; 8],
+}
+
+/// An index of the lattice.
+#[repr(C)]
+#[derive(Clone, Copy, Debug, PartialEq, Eq)]
+pub struct Index {
+    pub reply: u8,
+    pub at: [u16; 8],
+}
+
+/// A row of the rate-1 codebook.
+#[repr(C)]
+#[derive(Clone, Copy, Debug, PartialEq, Eq)]
+pub struct Row {
+    pub reply: u8,
+    pub index: u8,
+}
+
+/// Sound frames of a file and the place where its check ended.
+#[repr(C)]
+#[derive(Clone, Copy, Debug, PartialEq, Eq)]
+pub struct Check {
+    pub reply: u8,
+    pub count: u32,
+    pub place: usize,
+}
+
+impl Record {
+    /// The record of every refusal.
+    pub const ZERO: Record = Record {
+        mode: 0,
+        transient: false,
+        flag_l: false,
+        flag_n: false,
+        flag_c: false,
+        norms: [0; BANDS],
+        noise: 0,
+        tail_bits: 0,
+    };
+}

@@ -1,0 +1,71 @@
+//! The seeded cases are of many kinds, and the lister tells what the file
+//! check tells.
+
+use g719::{cases, reference};
+use std::collections::{BTreeMap, BTreeSet};
+
+const CASES: u64 = 20_000;
+
+/// The last line of the lister tells what the check tells, but for a booking.
+#[test]
+fn the_lister_and_the_check() {
+    for seed in 0..CASES / 4 {
+        let case = cases::check_case(seed);
+        let check = reference::check_file(&case.src, case.booking);
+        let listed = reference::list(&case.src);
+        if case.src.len() > 65_536 {
+            assert_eq!(listed, "input too long\n");
+        } else {
+            let reply = if check.reply == 11 { 0 } else { check.reply };
+            let total = format!("total {} answer {reply} at {}\n", check.count, check.place);
+            assert!(listed.ends_with(&total), "{total}");
+            let refused = !matches!(reply, 0 | 15);
+            let lines = check.count as usize + usize::from(refused) + 1;
+            assert_eq!(listed.lines().count(), lines);
+        }
+    }
+}
+
+/// Flags chosen both ways, and the reader's ends met: no tail, whole tail.
+#[test]
+fn sound_answers_are_many() {
+    let (mut flags_n, mut flags_c) = ([0; 2], [0; 2]);
+    let mut tails = BTreeMap::new();
+    for seed in 0..CASES {
+        let norms = cases::norms_case(seed);
+        let choice = reference::choose_flag_n(norms.transient, &norms.norms);
+        flags_n[usize::from(choice.flag)] += u32::from(choice.reply == 0);
+        let case = cases::flag_c_case(seed);
+        let choice = reference::choose_flag_c(&case.record, &case.codes);
+        flags_c[usize::from(choice.flag)] += u32::from(choice.reply == 0);
+        let mut case = cases::read_case(seed);
+        let reading = reference::read(&case.src, &mut case.codes, &mut case.tail);
+        if reading.reply == 0 {
+            *tails.entry(reading.record.tail_bits.min(64) / 8).or_insert(0) += 1;
+        }
+    }
+    println!("flag_n {flags_n:?} flag_c {flags_c:?} tail bytes {tails:?}");
+    assert!(flags_n.iter().chain(&flags_c).all(|&count| count > 500));
+    assert!(tails.len() == 9);
+}
+
+/// Sound frames are read in every mode, kind and setting of the flags.
+#[test]
+fn sound_frames_of_all_kinds() {
+    let mut kinds = BTreeSet::new();
+    for seed in 0..CASES {
+        let mut case = cases::read_case(seed);
+        let reading = reference::read(&case.src, &mut case.codes, &mut case.tail);
+        let record = reading.record;
+        if reading.reply == 0 {
+            kinds.insert((
+                record.mode,
+                record.transient,
+                record.flag_l,
+                record.flag_n,
+                record.flag_c,
+            ));
+        }
+    }
+    assert_eq!(kinds.len(), 20 * 16);
+}
