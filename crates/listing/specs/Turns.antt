@@ -6,12 +6,12 @@ use mathlib.Core.List.{List, [], _++_, append-nil, append-assoc}
 use Prim.Native.Nat.{ℕ, suc, _+_, _-_, _≤_, _<_}
 use native.Mathlib.Omega.{arith}
 use lib.ListN.{length, take, drop, length-append, length-drop}
-use lib.Seq.{take-all, drop-drop}
+use lib.Seq.{drop-drop}
 use Rattle.ground.specs.Replies.{done, tooMany}
 use Rattle.frame.specs.Answers.{Outcome, refused, empty, sound, readAnswer, readingOf}
 use Rattle.frame.specs.declared.Reading.{Reading}
-use Rattle.recording.specs.Walk.{storedAt, madeCheck, stopped, ahead, ahead-stopped, walk, mostFrames, isSound, stored-fits, walk-end, walk-full, walk-refused}
-use Rattle.recording.specs.Turns.{Passed, passed-none, passed-more}
+use Rattle.recording.specs.Walk.{storedAt, madeCheck, stopped, walk, mostFrames, isSound, stored-fits, walk-end, walk-full, walk-refused}
+use Rattle.recording.specs.Turns.{Passed, passed-none, passed-more, answered, told}
 use Rattle.recording.specs.declared.answer.Check.{Check}
 use Rattle.listing.specs.Text.{frameLine}
 use Rattle.listing.specs.Laying.{laidText, Laid, then, laid-long, laid-none}
@@ -73,15 +73,7 @@ stop-next n s h (refused x) e q = (walk-refused n s h x e, λ rest. refl)
 stop-next n s h empty e q = absurd (omega arith)
 stop-next n s h (sound mode x) e q = absurd (omega arith)
 
--- the part of the source that is lent
-lent : (s : List ℕ) (at : ℕ) → take (length s - at) (drop at s) ≡ drop at s
-lent s at = take-all (length s - at) (drop at s) (omega (arith, length-drop at s))
-
 module _ (src out₀ out : List ℕ) (next count place : ℕ) (p : Listed src out₀ out next count place) where
-  answered : (n : ℕ) → mostFrames - count ≡ n → (x : ℕ) → walk n (drop place src) ≡ stopped x → walk mostFrames src ≡ madeCheck x count place
-  answered n e x w =
-      p .passed .same ∙ ap (λ (k : ℕ). ahead count place (walk k (drop place src))) e ∙ ap (ahead count place) w ∙ ahead-stopped count place x
-
   ended : (n : ℕ) → mostFrames - count ≡ n → lines n count (drop place src) ≡ [] → lines mostFrames 0 src ≡ p .text
   ended n e q =
       p .whole ∙ ap (λ (k : ℕ). p .text ++ lines k count (drop place src)) e ∙ ap (λ (l : List ℕ). p .text ++ l) q ∙ append-nil (p .text)
@@ -91,28 +83,22 @@ module _ (src out₀ out : List ℕ) (next count place : ℕ) (p : Listed src ou
   listed-full h e =
       let k : mostFrames - count ≡ 0 = omega arith in
       complete src out₀ out (p .text) next (madeCheck tooMany count place) (p .laid) (ended 0 k (lines-full count (drop place src)))
-      (answered 0 k tooMany (walk-full (drop place src) (omega (arith, length-drop place src))))
+      (answered src place count (p .passed) 0 k tooMany (walk-full (drop place src) (omega (arith, length-drop place src))))
 
   -- no byte left
   pub listed-end : length src ≤ place → Complete src out₀ out (madeLines (madeCheck done count place) next)
   listed-end h =
       let z : length (drop place src) ≡ 0 = omega (arith, length-drop place src) in
       complete src out₀ out (p .text) next (madeCheck done count place) (p .laid) (ended (mostFrames - count) refl (lines-end (mostFrames - count) count (drop place src) z))
-      (answered (mostFrames - count) refl done (walk-end (mostFrames - count) (drop place src) z))
+      (answered src place count (p .passed) (mostFrames - count) refl done (walk-end (mostFrames - count) (drop place src) z))
 
   module _ (h : place < length src) (l : (count ≡ mostFrames) → ⊥)
       (codes tail : ℕ) (ec : codes ≡ 800) (et : tail ≡ 320) (r : Reading) (e : r ≡ readingOf (readAnswer (take (length src - place) (drop place src)) codes tail)) where
-    told : r ≡ readingOf (storedAt (drop place src))
-    unfolding storedAt
-    told =
-        e ∙ ap (λ (x : List ℕ). readingOf (readAnswer x codes tail)) (lent src place)
-        ∙ ap₂ (λ (c t : ℕ). readingOf (readAnswer (drop place src) c t)) ec et
-
     told-reply : r .reply ≡ readingOf (storedAt (drop place src)) .reply
-    told-reply = ap (λ (z : Reading). z .reply) told
+    told-reply = ap (λ (z : Reading). z .reply) (told src place count (p .passed) h l codes tail ec et r e)
 
     told-next : r .next ≡ readingOf (storedAt (drop place src)) .next
-    told-next = ap (λ (z : Reading). z .next) told
+    told-next = ap (λ (z : Reading). z .next) (told src place count (p .passed) h l codes tail ec et r e)
 
     here : 0 < length (drop place src)
     here = omega (arith, length-drop place src)
@@ -164,7 +150,7 @@ module _ (src out₀ out : List ℕ) (next count place : ℕ) (p : Listed src ou
             let z = stop-next (mostFrames - (count + 1)) (drop place src) here o refl (sym told-next ∙ q) in
             complete src out₀ out′ t next′ (madeCheck (r .reply) count place) (then (p .laid) m)
             (whole ∙ ap (λ (l : List ℕ). t ++ l) (z .1 _) ∙ append-nil t)
-            (answered (suc (mostFrames - (count + 1))) one-less (r .reply) (z .0 ∙ ap stopped (sym told-reply)))
+            (answered src place count (p .passed) (suc (mostFrames - (count + 1))) one-less (r .reply) (z .0 ∙ ap stopped (sym told-reply)))
 
         -- a sound one
         pub listed-more : (r .next ≡ 0 → ⊥) → Listed src out₀ out′ next′ (count + 1) (place + r .next)

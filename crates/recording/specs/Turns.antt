@@ -66,7 +66,7 @@ passed-none src at count ea ec =
 
 module _ (src : List ℕ) (at count : ℕ) (p : Passed src at count) where
   -- a walk that is left, as the answer
-  answered : (n : ℕ) → mostFrames - count ≡ n → (x : ℕ) → walk n (drop at src) ≡ stopped x
+  pub answered : (n : ℕ) → mostFrames - count ≡ n → (x : ℕ) → walk n (drop at src) ≡ stopped x
       → walk mostFrames src ≡ madeCheck x count at
   answered n e x w =
       p .same ∙ ap (λ (k : ℕ). ahead count at (walk k (drop at src))) e ∙ ap (ahead count at) w
@@ -83,7 +83,7 @@ module _ (src : List ℕ) (at count : ℕ) (p : Passed src at count) where
     here : 0 < length (drop at src)
     here = omega (arith, length-drop at src)
 
-    told : r ≡ readingOf (storedAt (drop at src))
+    pub told : r ≡ readingOf (storedAt (drop at src))
     unfolding storedAt
     told =
         e ∙ ap (λ (s : List ℕ). readingOf (readAnswer s room spare)) (lent src at)
