@@ -1,16 +1,16 @@
 -- Bytes as bits and back, byte after byte; the bits at a place are those of this plain reading.
 -- Assumes nothing.
 use mathlib.Core.Path.{_≡_, refl, sym, ap, ap₂, _∙_}
-use mathlib.Core.Bool.{Bool, false}
+use mathlib.Core.Bool.{Bool}
 use mathlib.Core.List.{List, [], _∷_, _++_}
-use Prim.Native.Nat.{ℕ, zero, suc, _+_, _-_, _*_, _/_, _%_, _^_, _≤_, _<_}
+use Prim.Native.Nat.{ℕ, zero, suc, _+_, _-_, _*_, _/_, _%_, _^_, _≤_}
 use native.Mathlib.Nat.{zero-add, suc-add, mod-eq-of-lt}
 use native.Mathlib.Omega.{arith}
 use lib.ListN.{length, getD, take, drop, length-append, length-drop, take-append-drop}
-use lib.Seq.{take-at, drop-at, length-take-le, getD-drop, drop-cons}
-use Rattle.bits.specs.Bits.{odd, word, val, bit, view, bitsOf, bytesOf, Bytes}
+use lib.Seq.{take-at, drop-at, length-take-le}
+use Rattle.bits.specs.Bits.{odd, word, val, view, bitsOf, bytesOf, Bytes}
 use Rattle.bits.specs.Numbers.{val-word, word-val, length-word}
-use Rattle.bits.specs.Views.{length-view, view-add, view-byte, take-view, drop-view}
+use Rattle.bits.specs.Views.{view-add, view-byte, take-view, drop-view}
 
 pub length-bits : (s : List ℕ) → length (bitsOf s) ≡ length s * 8
 unfolding bitsOf

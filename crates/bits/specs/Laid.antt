@@ -5,7 +5,7 @@ use mathlib.Core.Path.{_≡_, refl, sym, ap, ap₂, _∙_}
 use mathlib.Core.Bool.{Bool, false}
 use mathlib.Core.List.{List, [], _∷_, _++_, append-assoc}
 use Prim.Native.Nat.{ℕ, zero, suc, _+_, _-_, _*_, _/_, _%_, _^_, _≤_, _<_}
-use native.Mathlib.Nat.{add-zero, zero-add, suc-add, add-suc, add-assoc, mod-eq-of-lt, mod-lt, div-mul-le-self, lt-of-lt-of-le, lt-of-le-of-lt}
+use native.Mathlib.Nat.{add-zero, zero-add, suc-add, add-suc, add-assoc, mod-eq-of-lt, mod-lt, div-mul-le-self, lt-of-lt-of-le}
 use native.Mathlib.Omega.{arith}
 use native.Mathlib.Decide.{ℕ-discrete, decLt}
 use lib.ListN.{length, getD, take, drop, set, length-append, length-set, length-take, length-drop, List·getD-eq-default}

@@ -1,11 +1,10 @@
 -- What reading a stored frame answers: the reply, the record, and what the lent slices hold afterwards (01, Numbered replies).
 -- Assumes nothing.
-use mathlib.Core.Path.{_≡_, refl, sym, ap, ap₂, _∙_}
-use mathlib.Core.Bool.{Bool, true, false, cond}
-use mathlib.Core.List.{List, [], _∷_, _++_}
-use Prim.Native.Nat.{ℕ, zero, suc, _+_, _-_, _*_, _≤_, _<_}
+use mathlib.Core.Bool.{Bool, false, cond}
+use mathlib.Core.List.{List, _++_}
+use Prim.Native.Nat.{ℕ, _+_, _-_, _*_}
 use lib.Dec.{ltb}
-use lib.ListN.{length, getD, replicate, take, drop}
+use lib.ListN.{length, replicate, take, drop}
 use Rattle.ground.specs.Fills.{table}
 use Rattle.ground.specs.Replies.{done, noByte, marked, reserved, cut, shortRoom, noData}
 use Rattle.bits.specs.Bits.{view, val, bitsOf, bytesOf}

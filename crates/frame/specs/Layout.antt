@@ -2,17 +2,16 @@
 -- What follows depends on what was read: the flags say how the norms are sent, and flags and norms say the rates. Both round trips come out of the
 -- combinators.
 -- Assumes nothing.
-use mathlib.Core.Path.{_≡_, refl, sym, ap, _∙_}
+use mathlib.Core.Path.{_≡_, refl, ap}
 use mathlib.Core.Bool.{Bool, true, false, cond}
 use mathlib.Core.List.{List, [], _∷_, _++_, map}
-use Prim.Native.Nat.{ℕ, _+_, _-_, _*_, _≤_, _<_, zero-le}
+use Prim.Native.Nat.{ℕ, _+_, _-_, _≤_, zero-le}
 use native.Mathlib.Omega.{arith}
 use lib.Dec.{eqb}
 use borrow.Author.Tests.{eq-eqb, ne-eqb}
 use lib.ListN.{length, getD, length-append}
-use Rattle.bits.specs.Bits.{word}
 use Rattle.bits.specs.Numbers.{length-word}
-use Rattle.bits.specs.Codings.{Coding, fixed, Answer, got, no, wordOf, Fit}
+use Rattle.bits.specs.Codings.{fixed, got, wordOf}
 use Rattle.bits.specs.Codecs.{Codec, coded, words, raw, within, pair, writeAll}
 use Rattle.words.specs.Tables.{coding}
 use Rattle.words.specs.Spell.{word-fixed}

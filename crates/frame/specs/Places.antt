@@ -1,23 +1,22 @@
 -- The reading of a body by places: what the code finds at each place, and what that makes of the frame.
 -- Assumes nothing.
-use mathlib.Core.Path.{_≡_, refl, sym, ap, ap₂, _∙_, subst⁻¹}
-use mathlib.Core.Bool.{Bool, true, false, cond}
-use mathlib.Core.List.{List, [], _∷_, _++_, append-assoc, map}
-use Prim.Native.Nat.{ℕ, _+_, _-_, _*_, _≤_, _<_}
+use mathlib.Core.Path.{_≡_, refl, sym, ap, _∙_, subst⁻¹}
+use mathlib.Core.Bool.{Bool}
+use mathlib.Core.List.{List, [], _++_, map}
+use Prim.Native.Nat.{ℕ, _+_, _-_, _≤_}
 use native.Mathlib.Nat.{zero-add}
 use native.Mathlib.Omega.{arith}
-use lib.ListN.{length, take, drop, getD}
+use lib.ListN.{length}
 use borrow.Author.Tests.{le-leb}
-use lib.Dec.{leb}
 use Rattle.bits.specs.Bits.{val, view}
 use Rattle.bits.specs.Views.{length-view, view-add, take-view, drop-view, view-rest}
-use Rattle.bits.specs.Codings.{Answer, got, no, fixed, unword, fixed-fine}
-use Rattle.bits.specs.Codecs.{Codec, andThen, within, raw, rawRead, rawGot, words, readAll, writeAll}
+use Rattle.bits.specs.Codings.{got, no, fixed, unword, fixed-fine}
+use Rattle.bits.specs.Codecs.{Codec, andThen, within, raw, rawRead, words, readAll, writeAll}
 use Rattle.bits.specs.declared.Refusal.{Refusal}
 use Rattle.words.specs.Tables.{coding}
 use Rattle.words.specs.Runs.{runAt}
 use Rattle.norms.specs.Part.{normPart, normBits, norms-there}
-use Rattle.frame.specs.Layout.{Frame, isTransient, flagL, flagN, flagC, spare, wideIn, budgetAfter, budgetOf, kindsAt, kindsOf, codeBits, tailLeft, codesPart, endingPart, frame}
+use Rattle.frame.specs.Layout.{isTransient, flagN, spare, budgetOf, kindsOf, codeBits, tailLeft, codesPart, endingPart, frame}
 
 -- ---- parts of codecs at a place
 

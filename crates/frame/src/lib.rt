@@ -11,6 +11,7 @@ ghost use Rattle.frame.specs.Kinds.{bandOf, kindOf, kinds};
 ghost use Rattle.frame.specs.Layout.{spare, wideIn, kindsAt};
 ghost use Rattle.frame.specs.Answers.{Outcome, flagsOf, stoppedAt, started, readBody, readAnswer, readingOf, codesAfter, tailAfter, tailFrom};
 ghost use Rattle.frame.specs.Reads.{Opened, keptOf, madeReading};
+use ground::numbers::minus;
 use ground::replies::CUT;
 use ground::replies::DONE;
 use ground::replies::MARKED;
@@ -121,12 +122,6 @@ fn wide_of(end: usize, flag_l: bool) -> bool
     ensures { λ r. ⌜ r ≡ wideIn end «flag_l» ⌝ }
 {
     if end == 640 { flag_l } else { true }
-}
-
-fn minus(a: usize, b: usize) -> usize
-    ensures { λ r. ⌜ r ≡ a - b ⌝ }
-{
-    if b < a { a - b } else { 0 }
 }
 
 // The kinds of the 800 places, from flags and norms whose bits end at a place.

@@ -1,6 +1,6 @@
 -- What the calls on norms answer.
 -- Assumes nothing.
-use mathlib.Core.Path.{_≡_, refl, sym, ap, _∙_, subst⁻¹}
+use mathlib.Core.Path.{_≡_, sym, ap, _∙_, subst⁻¹}
 use mathlib.Core.Bool.{Bool, true, false, cond, _&&_}
 use mathlib.Core.List.{List, [], _∷_, map}
 use Prim.Native.Nat.{ℕ, _+_, _-_, _≤_, _<_}
@@ -16,7 +16,7 @@ use Rattle.bits.specs.Codings.{Answer, got, no, replyOf}
 use Rattle.bits.specs.Codecs.{Check, fine, bad, writeAll}
 use Rattle.words.specs.Tables.{coding}
 use Rattle.norms.specs.Order.{sent, banded, length-sent, length-banded, sent-first, sent-each, each-sent, sent-banded, banded-sent}
-use Rattle.norms.specs.Steps.{stepsClose, numbers, Near, length-numbers, near-range, near-first, steps-near}
+use Rattle.norms.specs.Steps.{stepsClose, Near, length-numbers, near-range, near-first, steps-near}
 use Rattle.norms.specs.Legal.{legalOf, legalSent, capped, capped-le, length-capped, legal-near, legal-same, length-legal}
 use Rattle.norms.specs.Part.{numbersOf, normKinds, normBits, Writable, bits-split}
 use Rattle.norms.specs.declared.NormPart.{NormPart}

@@ -6,13 +6,12 @@ use mathlib.Core.Bool.{Bool}
 use mathlib.Core.List.{List, [], _∷_}
 use Prim.Native.Nat.{ℕ, zero, suc, _+_, _-_, _≤_, _<_, min}
 use native.Mathlib.Nat.{le-of-suc-le-suc}
-use native.Mathlib.Numerals.{add-one}
 use native.Mathlib.Omega.{arith}
 use native.Mathlib.Decide.{ℕ-discrete}
 use lib.ListN.{length, getD, set, length-set}
 use lib.Seq.{getD-set-same, getD-set-other, set-getD}
 use Rattle.ground.specs.Fills.{table, length-from, getD-table, filled}
-use Rattle.norms.specs.Order.{sent, banded, sent-each, length-sent, sent-banded, banded-sent}
+use Rattle.norms.specs.Order.{sent, banded}
 use Rattle.norms.specs.Steps.{Near}
 
 -- ---- definitions

@@ -4,17 +4,17 @@
 use mathlib.Core.Path.{_≡_, refl, sym, ap, _∙_, subst}
 use mathlib.Core.Bool.{Bool, true, false, cond, _&&_}
 use mathlib.Core.List.{List, [], _∷_, _++_, map}
-use Prim.Native.Nat.{ℕ, zero, suc, _+_, _-_, _*_, _^_, _≤_, _<_}
+use Prim.Native.Nat.{ℕ, zero, suc, _+_, _-_, _*_, _≤_, _<_}
 use native.Mathlib.Omega.{arith}
 use lib.Dec.{T, leb, leb→le}
-use lib.ListN.{length, getD, replicate, length-append, length-map, length-replicate}
+use lib.ListN.{length, getD, replicate, length-append, length-map}
 use Rattle.ground.specs.Cases.{and-T}
 use Rattle.ground.specs.Tables.{every, every-at}
 use Rattle.bits.specs.Bits.{word}
 use Rattle.bits.specs.Numbers.{length-word}
-use Rattle.bits.specs.Codings.{Coding, fixed, prefix, Answer, got, no, wordOf, Fit}
-use Rattle.bits.specs.Codecs.{Codec, Check, fine, bad, checked, settle, andThen, words, writeAll, readAll, GoodAll, FitAll}
-use Rattle.words.specs.Tables.{coding, column, table16, words as wordsOf}
+use Rattle.bits.specs.Codings.{Coding, got, no, wordOf, Fit}
+use Rattle.bits.specs.Codecs.{Codec, Check, fine, bad, checked, words, writeAll, readAll, GoodAll, FitAll}
+use Rattle.words.specs.Tables.{coding, table16, words as wordsOf}
 use Rattle.words.specs.Answers.{good-coding, coding-fixed, coding-column}
 use Rattle.words.specs.Spell.{word-fixed, word-column}
 use Rattle.bits.specs.declared.Refusal.{Refusal}

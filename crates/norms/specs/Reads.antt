@@ -9,7 +9,7 @@ use lib.ListN.{length, replicate}
 use Rattle.ground.specs.Replies.{done, normOutside}
 use Rattle.bits.specs.Bits.{view}
 use Rattle.bits.specs.Views.{length-view}
-use Rattle.bits.specs.Codings.{Answer, got, no, replyOf}
+use Rattle.bits.specs.Codings.{got}
 use Rattle.bits.specs.Codecs.{Check, fine, bad, readAll}
 use Rattle.bits.specs.declared.Refusal.{Refusal}
 use Rattle.bits.specs.declared.Refusal.the-variants.{Outside}
@@ -21,7 +21,6 @@ use Rattle.norms.specs.Order.{banded}
 use Rattle.norms.specs.Steps.{indices, guarded}
 use Rattle.norms.specs.Part.{normKinds, normPart, kinds-long, part-no, part-bad, part-got}
 use Rattle.norms.specs.Answers.{partOf, indicesOf}
-use Rattle.norms.specs.declared.NormPart.{NormPart}
 use Rattle.norms.specs.declared.Indices.{Indices}
 use lib.Dec.{leb}
 

@@ -1,9 +1,8 @@
 -- Examples of 01 on norms, by computing: the head of the starred body 6A 6D B6 DB 6D, and the bounds of a difference.
 -- Assumes nothing.
 use mathlib.Core.Path.{_≡_, refl}
-use mathlib.Core.Bool.{Bool, true, false}
-use mathlib.Core.List.{List, [], _∷_, map}
-use Prim.Native.Nat.{ℕ}
+use mathlib.Core.Bool.{true, false}
+use mathlib.Core.List.{[], _∷_}
 use lib.ListN.{length, take, replicate}
 use Rattle.bits.specs.Bits.{word, view}
 use Rattle.bits.specs.Codings.{wordOf}

@@ -1,7 +1,7 @@
 -- Norm indices in sent order as the numbers that are sent, and back (7.4, 8.2): the first index, then each difference plus 15.
 -- The first counts as a step from 15, so it is its own number.
 -- Assumes nothing.
-use mathlib.Core.Path.{_≡_, refl, sym, ap, ap₂, _∙_, subst}
+use mathlib.Core.Path.{_≡_, refl, ap, ap₂, _∙_, subst}
 use mathlib.Core.Bool.{Bool, true, false, _&&_}
 use mathlib.Core.List.{List, [], _∷_}
 use Prim.Native.Nat.{ℕ, zero, suc, _+_, _-_, _≤_, _<_}
@@ -9,8 +9,8 @@ use native.Mathlib.Nat.{le-of-suc-le-suc}
 use native.Mathlib.Omega.{arith}
 use lib.Dec.{leb}
 use lib.ListN.{length, getD, drop}
-use borrow.Author.Tests.{le-leb, lt-leb, leb-true}
-use Rattle.ground.specs.Cases.{and-true, by-bool}
+use borrow.Author.Tests.{le-leb, leb-true}
+use Rattle.ground.specs.Cases.{and-true}
 use Rattle.ground.specs.Fills.{table, filled}
 use Rattle.bits.specs.Codecs.{Check, fine, bad}
 use Rattle.bits.specs.declared.Refusal.the-variants.{Outside}

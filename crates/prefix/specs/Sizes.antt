@@ -1,7 +1,7 @@
 -- The sizes of a frame's body: Table 22 by mode, Table A.2 by the field L. They name the same sizes, and neither number stands for the other.
 -- Assumes nothing.
 use mathlib.Core.Path.{_≡_, refl, sym, ap, _∙_}
-use mathlib.Core.Bool.{Bool, true, false, not, cond, _&&_}
+use mathlib.Core.Bool.{Bool, false, not, cond, _&&_}
 use mathlib.Core.List.{List, [], _∷_}
 use Prim.Native.Nat.{ℕ, zero, suc, _+_, _-_, _*_, _≤_, _<_}
 use native.Mathlib.Omega.{arith}
@@ -10,8 +10,6 @@ use lib.ListN.{length, getD, List·getD-eq-default}
 use borrow.Author.Tests.{eq-eqb, ne-eqb, lt-ltb, le-ltb, le-leb, lt-leb, ltb-true, ltb-false, leb-true, leb-false}
 use Rattle.ground.specs.Cases.{by-bool, and-T}
 use Rattle.ground.specs.Tables.{every, every-at}
-use Rattle.prefix.specs.declared.Mode.{Mode}
-use Rattle.prefix.specs.declared.Length.{Length}
 use Rattle.prefix.specs.declared.Field.{Field}
 use Rattle.prefix.specs.declared.Field.the-variants as field
 use Rattle.prefix.specs.declared.Rate.{Rate}

@@ -1,9 +1,8 @@
 -- The starred examples of 01 on the prefix byte.
 use mathlib.Core.Path.{_≡_, refl}
-use mathlib.Core.List.{List, [], _∷_}
-use Prim.Native.Nat.{ℕ}
+use mathlib.Core.List.{[], _∷_}
 use Rattle.prefix.specs.Sizes.{tableA2, lengthBytes}
-use Rattle.prefix.specs.Prefix.{Reading, readingOf, prefixOf, prefixByte}
+use Rattle.prefix.specs.Prefix.{readingOf, prefixOf, prefixByte}
 
 -- ★ 04: 3. ★ 80: 2. ★ 6C: L 27, 320 bytes. ★ 70: 3.
 pub star-04 : readingOf (prefixOf (0x04 ∷ [])) ≡ record { reply = 3; field = 0; bytes = 0; next = 0 }

@@ -3,13 +3,13 @@
 -- That no call faults is what the proof of each function says, and none of these calls asks anything of its caller. Here is the rest: the numbers of
 -- 01's table that each call can answer, and what a refusal leaves.
 -- Assumes nothing.
-use mathlib.Core.Path.{_≡_, refl, sym, ap, _∙_, subst}
-use mathlib.Core.Bool.{Bool, true, false, cond, _&&_}
+use mathlib.Core.Path.{_≡_, refl, sym, subst}
+use mathlib.Core.Bool.{Bool, cond, _&&_}
 use mathlib.Core.List.{List, [], _∷_, map}
-use mathlib.Core.Logic.{_⊎_, inl, inr}
+use mathlib.Core.Logic.{inl, inr}
 use Prim.Native.Nat.{ℕ, zero, suc, _+_, _-_, _*_, _^_, _≤_, _<_}
 use native.Mathlib.Omega.{arith}
-use lib.Dec.{T, eqb, ltb, leb}
+use lib.Dec.{eqb, ltb, leb}
 use lib.IntN.{ℤ}
 use lib.ListN.{length, getD, take}
 use borrow.Author.Tests.{ne-eqb, lt-ltb}
@@ -20,8 +20,8 @@ use Rattle.bits.specs.Codings.{Answer, got, no}
 use Rattle.bits.specs.Codecs.{writeAll}
 use Rattle.bits.specs.declared.Refusal.the-variants.{Outside, Missing, Past}
 use Rattle.words.specs.Tables.{coding}
-use Rattle.prefix.specs.Sizes.{lengthBytes, tableA2, modeBytes}
-use Rattle.prefix.specs.Prefix.{prefixOf, prefixByte, byteOf, said, Reading, readingOf as prefixReading, Writing, writingOf as prefixWriting}
+use Rattle.prefix.specs.Sizes.{lengthBytes, modeBytes}
+use Rattle.prefix.specs.Prefix.{prefixOf, readingOf as prefixReading, writingOf as prefixWriting}
 use Rattle.prefix.specs.declared.Prefix.{Prefix}
 use Rattle.prefix.specs.declared.Prefix.the-variants.{Data, NoData, NoByte, Marked, Reserved}
 use Rattle.prefix.specs.declared.Byte.{Byte}
@@ -45,8 +45,8 @@ use Rattle.frame.specs.Layout.{Frame, frame}
 use Rattle.frame.specs.Answers.{Outcome, refused, empty, sound, outcome, readBody, started, readAnswer, readingOf, codesAfter, tailAfter, bodyOf}
 use Rattle.frame.specs.declared.Record.{Record}
 use Rattle.writer.specs.Tests.{quietOf, fits, clear}
-use Rattle.writer.specs.Empty.{emptyReply, emptyAfter}
-use Rattle.writer.specs.Writes.{firstOf, kindsFor, budgetFor, earlyReply, lateReply, writeReply, outAfter}
+use Rattle.writer.specs.Empty.{emptyReply}
+use Rattle.writer.specs.Writes.{kindsFor, budgetFor, earlyReply, lateReply, writeReply, outAfter}
 use Rattle.writer.specs.Choice.{plain, startReply, choiceReply, choiceOf as flagC}
 use Rattle.writer.specs.declared.Writing.{Writing as Written}
 use Rattle.listing.specs.Listing.{listedIn, outAfter as listed}

@@ -1,10 +1,10 @@
 -- Demand 2. Reading and writing agree with JT-G719 and with the paper. Write back a frame that was read: its bytes return. Read a record that was
 -- written: that record returns. At rates 2–9 lattice indices and points match one to one; any other point is refused.
 -- Assumes nothing.
-use mathlib.Core.Path.{_≡_, refl, sym, ap, ap₂, _∙_, subst}
+use mathlib.Core.Path.{_≡_, refl, sym, ap, ap₂, _∙_}
 use mathlib.Core.Bool.{Bool, true, false, cond}
 use mathlib.Core.List.{List, [], _∷_, _++_, append-nil}
-use Prim.Native.Nat.{ℕ, suc, _+_, _-_, _*_, _≤_, _<_, zero-le}
+use Prim.Native.Nat.{ℕ, _+_, _-_, _*_, _≤_, _<_, zero-le}
 use native.Mathlib.Numerals.{add-one}
 use native.Mathlib.Omega.{arith}
 use lib.Dec.{ltb}
@@ -17,14 +17,14 @@ use Rattle.bits.specs.Bytes.{bits-bytes, length-bytes}
 use Rattle.bits.specs.Codings.{Answer, got, no}
 use Rattle.bits.specs.declared.Refusal.the-variants.{Outside, Missing, Past}
 use Rattle.prefix.specs.Sizes.{modeBytes, lengthBytes}
-use Rattle.prefix.specs.Prefix.{prefixOf, prefixByte, byteWith, zeroR, read-some, r-ignored, read-written}
+use Rattle.prefix.specs.Prefix.{prefixOf, byteWith, zeroR, read-some, r-ignored, read-written}
 use Rattle.prefix.specs.declared.Prefix.{Prefix}
 use Rattle.prefix.specs.declared.Prefix.the-variants.{Data, NoData, NoByte, Marked, Reserved}
 use Rattle.frame.specs.Layout.{Frame, frame}
 use Rattle.frame.specs.Answers.{Outcome, refused, empty, sound, outcome, readBody, bodyOf, started, readAnswer, readingOf, codesAfter, tailAfter}
 use Rattle.frame.specs.Reads.{read-started, data-whole}
 use Rattle.frame.specs.declared.Record.{Record}
-use Rattle.writer.specs.Writes.{kindsFor, budgetFor, earlyReply, lateReply, writeReply, outAfter, Roomy, early-norms, late-pad, reply-late}
+use Rattle.writer.specs.Writes.{kindsFor, budgetFor, earlyReply, lateReply, writeReply, outAfter, early-norms, late-pad, reply-late}
 use Rattle.writer.specs.Tests.{all-fits}
 use Rattle.writer.specs.Bodies.{Passed, passed}
 use Rattle.writer.specs.ReadBack as readback

@@ -1,17 +1,17 @@
 -- The starred examples of 01: one list, one claim.
 -- Assumes nothing.
-use mathlib.Core.Path.{_≡_, refl, sym, ap, _∙_}
+use mathlib.Core.Path.{_≡_, refl, ap, _∙_}
 use mathlib.Core.Bool.{Bool, true, false}
 use mathlib.Core.List.{List, [], _∷_, _++_}
-use Prim.Native.Nat.{ℕ, _+_, _*_}
+use Prim.Native.Nat.{ℕ, _+_}
 use lib.IntN.{pos, negsuc}
-use lib.ListN.{length, take, drop, replicate}
+use lib.ListN.{take, drop, replicate}
 use Rattle.bits.specs.Bits.{word, val, bytesOf}
 use Rattle.bits.specs.Codings.{wordOf}
 use Rattle.bits.specs.Codecs.{writeAll}
 use Rattle.words.specs.Tables.{coding, words, table16}
 use Rattle.prefix.specs.Sizes.{tableA2, lengthBytes, modeBytes, table22}
-use Rattle.prefix.specs.Prefix.{prefixOf, prefixByte, Reading, readingOf as prefixReading}
+use Rattle.prefix.specs.Prefix.{prefixOf, prefixByte, readingOf as prefixReading}
 use Rattle.prefix.specs.Stars as prefix
 use Rattle.norms.specs.Order.{sent}
 use Rattle.norms.specs.Steps.{numbers}
@@ -24,7 +24,7 @@ use Rattle.lattice.specs.Answers.{pointOf}
 use Rattle.lattice.specs.Stars as lattice
 use Rattle.frame.specs.Layout.{spare, wideIn, budgetOf}
 use Rattle.frame.specs.Answers.{readAnswer, readingOf, stoppedAt}
-use Rattle.writer.specs.Writes.{total, frameOf, bytesFor}
+use Rattle.writer.specs.Writes.{bytesFor}
 use Rattle.writer.specs.Bodies.{bodyBits, body-is}
 use Rattle.frame.specs.declared.Record.{Record}
 use Rattle.listing.specs.Text.{frameLine, totalLine}

@@ -1,18 +1,16 @@
 -- One turn of each loop, and the bounds of each stage.
 -- Assumes nothing.
-use mathlib.Core.Path.{_≡_, refl, _∙_}
-use mathlib.Core.Bool.{Bool, true, false, and-false}
+use mathlib.Core.Path.{_≡_, _∙_}
+use mathlib.Core.Bool.{Bool, true, false}
 use mathlib.Core.List.{List}
 use Prim.Native.Nat.{ℕ, zero, suc, _+_, _-_, _*_, _/_, _≤_, _<_, max, min}
 use native.Mathlib.Decide.{ℕ-discrete}
-use native.Mathlib.Nat.{le-refl, div-le-of-le-mul, not-suc-le-zero, mul-le-mul-left, mul-left-comm}
+use native.Mathlib.Nat.{le-refl, div-le-of-le-mul, mul-le-mul-left, mul-left-comm}
 use native.Mathlib.Numerals.{add-one}
 use native.Mathlib.Omega.{arith}
-use borrow.Author.Tests.{lt-ltb, le-ltb, le-leb, lt-leb, leb-true}
-use lib.Dec.{leb}
+use borrow.Author.Tests.{lt-ltb, le-ltb}
 use lib.IntN.{ℤ, pos}
 use lib.ListN.{replicate}
-use Rattle.ground.specs.Cases.{and-true}
 use Rattle.ground.specs.Fills.{table}
 use Rattle.ground.specs.Replies.{done, outOfRange}
 use Rattle.ground.specs.Sums.{nth, sumTo}

@@ -1,8 +1,7 @@
 -- The weights and the starting scores of 7.5.1, in whole numbers of 1/720 (01, Weights). Wherever 7.5 prints the index, loudness is meant.
-use mathlib.Core.Bool.{Bool, true, cond, _&&_}
+use mathlib.Core.Bool.{Bool, cond}
 use mathlib.Core.List.{List, [], _∷_}
 use Prim.Native.Nat.{ℕ, zero, suc, _+_, _-_, _*_, _/_}
-use lib.Dec.{leb}
 use lib.IntN.{ℤ, pos, natAbs, _+ℤ_, _-ℤ_, _*ℤ_}
 use lib.ListN.{getD, replicate}
 use lib.Signed.{ltZ, shrZ}

@@ -1,18 +1,17 @@
 -- What reading a word at a place answers, and the codings by kind.
 -- Assumes nothing.
 use mathlib.Core.Path.{_≡_, refl, sym, ap, ap₂, _∙_}
-use mathlib.Core.Bool.{Bool, cond}
-use mathlib.Core.List.{List, []}
-use Prim.Native.Nat.{ℕ, zero, suc, _+_, _-_, _^_, _≤_, _<_, min}
+use mathlib.Core.List.{List}
+use Prim.Native.Nat.{ℕ, zero, suc, _+_, _-_, _≤_, _<_, min}
 use native.Mathlib.Nat.{add-zero}
 use native.Mathlib.Omega.{arith}
 use lib.Dec.{ltb}
-use lib.ListN.{length, getD}
+use lib.ListN.{length}
 use borrow.Author.Tests.{lt-ltb, le-ltb, ltb-true, ltb-false}
 use Rattle.ground.specs.Cases.{by-bool}
-use Rattle.bits.specs.Bits.{word, val, view}
+use Rattle.bits.specs.Bits.{val, view}
 use Rattle.bits.specs.Views.{length-view}
-use Rattle.bits.specs.Codings.{Answer, got, no, Coding, fixed, prefix, unword, wordOf, fit, Fit, Good, replyOf, fixed-fine, fixed-short}
+use Rattle.bits.specs.Codings.{Answer, got, no, Coding, fixed, unword, Good, replyOf, fixed-fine, fixed-short}
 use Rattle.bits.specs.declared.Refusal.the-variants.{Past}
 use Rattle.words.specs.Tables.{words, refused, column, coding, free-words}
 use Rattle.words.specs.declared.Word.{Word}

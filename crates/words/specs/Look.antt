@@ -3,18 +3,18 @@
 use mathlib.Core.Path.{_≡_, refl, sym, ap, _∙_}
 use mathlib.Core.Bool.{Bool, true, false, _&&_, cond}
 use mathlib.Core.List.{List, [], _∷_, _++_, append-nil}
-use Prim.Native.Nat.{ℕ, suc, _+_, _-_, _*_, _/_, _%_, _^_, _≤_, _<_}
+use Prim.Native.Nat.{ℕ, _+_, _-_, _*_, _/_, _%_, _≤_, _<_}
 use native.Mathlib.Nat.{zero-add}
 use native.Mathlib.Omega.{arith}
 use lib.Dec.{T, eqb, ltb, ltb→lt}
-use lib.ListN.{length, getD, take, length-append, List·getD-append}
+use lib.ListN.{length, getD, take}
 use borrow.Author.Tests.{eq-eqb, ne-eqb}
 use Rattle.ground.specs.Cases.{and-T}
 use Rattle.ground.specs.Tables.{every-at}
 use Rattle.bits.specs.Bits.{word, val, view}
 use Rattle.bits.specs.Numbers.{word-val}
 use Rattle.bits.specs.Views.{length-view, view-add, take-view, view-lt}
-use Rattle.bits.specs.Codings.{Answer, got, no, unword, find, find-word, find-cut, found-fine, found-refused, found-cut}
+use Rattle.bits.specs.Codings.{got, no, unword, find, find-word, find-cut, found-fine, found-refused, found-cut}
 use Rattle.bits.specs.declared.Refusal.the-variants.{Missing, Past}
 use Rattle.words.specs.Tables.{words, refused, lacking, column, columnOf, table16, table20, free-words}
 

@@ -14,7 +14,7 @@ use Rattle.bits.specs.Numbers.{word-val, length-word}
 use Rattle.ground.specs.Cases.{by-bool}
 use borrow.Author.Tests.{ltb-true, ltb-false}
 use lib.ListN.{List·getD-eq-default}
-use Rattle.bits.specs.Codings.{Coding, fixed, prefix, wordOf, fit}
+use Rattle.bits.specs.Codings.{Coding, fixed, wordOf, fit}
 use Rattle.words.specs.Tables.{words, column, coding, columnOf, table16, table20}
 use Rattle.words.specs.Answers.{coding-fixed, coding-column, coding-found}
 

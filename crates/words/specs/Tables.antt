@@ -4,9 +4,9 @@ use mathlib.Core.Bool.{Bool, cond}
 use mathlib.Core.List.{List, [], _∷_, _++_, map}
 use Prim.Native.Nat.{ℕ, zero, suc, _-_, _^_}
 use lib.Dec.{T, ltb}
-use lib.ListN.{length, getD, take}
+use lib.ListN.{getD, take}
 use Rattle.bits.specs.Bits.{word}
-use Rattle.bits.specs.Codings.{Coding, fixed, prefix, prefixFree, apart, apartAll, Good}
+use Rattle.bits.specs.Codings.{Coding, fixed, prefix, prefixFree, apart, apartAll}
 
 -- Table 16, Huffman code for differential indices: its four columns of eight
 unfoldable pub table16 : List (List Bool)

@@ -11,6 +11,7 @@ ghost use Rattle.words.specs.Answers.{placed, wordAt};
 ghost use Rattle.words.specs.Look.{right, lookTable};
 ghost use Rattle.words.specs.Spell.{packed, startOf, spellTable};
 use bits::Refusal;
+use ground::numbers::minus;
 
 pub mod runs;
 mod tables;
@@ -64,12 +65,6 @@ fn column_word(table: &[u8; 640], s: &[u8], at: usize, left: usize, c: usize) ->
         return Word::No(Refusal::Past);
     }
     Word::At((e / 8) as u16, at + n)
-}
-
-fn minus(a: usize, b: usize) -> usize
-    ensures { λ r. ⌜ r ≡ a - b ⌝ }
-{
-    if b < a { a - b } else { 0 }
 }
 
 // The word of a kind at a place, by a lent look-up.

@@ -14,21 +14,18 @@ use Rattle.bits.specs.Bits.{num, word, view, laid, bytesOf, Bytes}
 use Rattle.bits.specs.Numbers.{length-word}
 use Rattle.bits.specs.Views.{length-view}
 use Rattle.bits.specs.Laid.{laid-append, laid-behind}
-use Rattle.bits.specs.Codings.{fixed, wordOf, Fit}
-use Rattle.bits.specs.Codecs.{Codec, writeAll, words, raw, FitAll}
+use Rattle.bits.specs.Codecs.{writeAll, words, raw, FitAll}
 use Rattle.words.specs.Tables.{coding}
 use Rattle.words.specs.Spell.{word-fixed}
 use Rattle.prefix.specs.Sizes.{modeBytes, mode-bounds}
 use Rattle.prefix.specs.Prefix.{byteWith}
-use Rattle.norms.specs.Part.{normBits, normPart, Writable, write-is, ok-writable, norm-bits}
+use Rattle.norms.specs.Part.{normBits, Writable, write-is, ok-writable, norm-bits}
 use Rattle.norms.specs.Answers.{writable-reply}
-use Rattle.frame.specs.Layout.{Frame, isTransient, flagN, spare, budgetOf, kindsOf, codeBits, tailLeft, codesPart, frame, frame-bits}
+use Rattle.frame.specs.Layout.{spare, budgetOf, codeBits, tailLeft, codesPart, frame, frame-bits}
 use Rattle.frame.specs.Reads.{spare-le}
 use Rattle.frame.specs.declared.Record.{Record}
 use Rattle.writer.specs.Tests.{quietOf, fits, clear, fits-all}
-use Rattle.writer.specs.Writes.{flagBits, total, frameOf, bytesFor, kindsFor, budgetFor, earlyReply, lateReply, writeReply, firstOf, Roomy, early-rooms, outAfter, writingOf, planOf, late-wide, late-past, late-count, late-pad}
-use Rattle.writer.specs.declared.Plan.{Plan}
-use Rattle.writer.specs.declared.Writing.{Writing}
+use Rattle.writer.specs.Writes.{flagBits, total, frameOf, bytesFor, kindsFor, budgetFor, earlyReply, lateReply, writeReply, firstOf, Roomy, early-rooms, outAfter, writingOf, late-wide, late-past, late-count, late-pad}
 
 -- flags, norms, codes, noise, tail
 unfoldable pub bodyBits : Record → List ℕ → List ℕ → List Bool

@@ -1,31 +1,28 @@
 -- Read a record that was written: that record returns, with its codes and its tail.
 -- Assumes nothing.
 use mathlib.Core.Path.{_≡_, refl, sym, ap, ap₂, _∙_}
-use mathlib.Core.Bool.{Bool, true, false, cond}
+use mathlib.Core.Bool.{Bool, true, false}
 use mathlib.Core.List.{List, [], _∷_, _++_, append-nil}
-use Prim.Native.Nat.{ℕ, suc, _+_, _-_, _*_, _≤_, _<_, zero-le}
+use Prim.Native.Nat.{ℕ, _+_, _-_, _*_, _≤_, _<_, zero-le}
 use native.Mathlib.Nat.{zero-add}
 use native.Mathlib.Omega.{arith}
 use lib.ListN.{length, take, drop, replicate, length-append, take-append-drop}
 use lib.Seq.{take-at, length-take-le}
 use borrow.Author.Tests.{lt-ltb, le-ltb}
-use Rattle.ground.specs.Cases.{and-true}
 use Rattle.ground.specs.Replies.{done}
 use Rattle.bits.specs.Bits.{view, bitsOf, bytesOf, Bytes}
 use Rattle.bits.specs.Bytes.{length-bytes, bits-bytes, bytes-bits, length-bits, view-part}
 use Rattle.bits.specs.Laid.{bits-append}
 use Rattle.bits.specs.Views.{length-view, view-add}
-use Rattle.prefix.specs.Sizes.{modeBytes, lengthBytes, mode-bounds}
-use Rattle.prefix.specs.Prefix.{prefixOf, byteWith, read-written}
+use Rattle.prefix.specs.Sizes.{modeBytes, mode-bounds}
+use Rattle.prefix.specs.Prefix.{byteWith, read-written}
 use Rattle.prefix.specs.declared.Prefix.{Prefix}
-use Rattle.prefix.specs.declared.Prefix.the-variants.{Data}
-use Rattle.frame.specs.Layout.{Frame, frame, spare, budgetOf}
-use Rattle.frame.specs.Answers.{Outcome, sound, outcome, readBody, bodyOf, started, readAnswer, recordOf, readingOf, codesAfter, tailBytes, tailAfter}
+use Rattle.frame.specs.Layout.{frame, budgetOf}
+use Rattle.frame.specs.Answers.{sound, outcome, readBody, started, readAnswer, readingOf, codesAfter, tailBytes, tailAfter}
 use Rattle.frame.specs.declared.Record.{Record}
-use Rattle.frame.specs.declared.Reading.{Reading}
 use Rattle.writer.specs.Tests.{clear}
-use Rattle.writer.specs.Writes.{total, frameOf, bytesFor, budgetFor, writeReply}
-use Rattle.writer.specs.Bodies.{Passed, passed, meant, meant-long}
+use Rattle.writer.specs.Writes.{total, frameOf, bytesFor}
+use Rattle.writer.specs.Bodies.{Passed, meant, meant-long}
 
 -- clear bits are a run of 0
 clear-zeros : (b : List Bool) → clear b ≡ true → b ≡ replicate (length b) false

@@ -3,19 +3,19 @@
 use mathlib.Core.Path.{_≡_, refl, sym, ap, ap₂, _∙_}
 use mathlib.Core.Bool.{Bool, true, false, cond, not, _&&_}
 use mathlib.Core.List.{List, [], _∷_, _++_, map}
-use Prim.Native.Nat.{ℕ, zero, suc, _+_, _-_, _*_, _^_, _≤_, _<_, min}
-use native.Mathlib.Nat.{zero-add, add-zero}
+use Prim.Native.Nat.{ℕ, suc, _+_, _-_, _≤_, _<_, min}
+use native.Mathlib.Nat.{zero-add}
 use native.Mathlib.Numerals.{add-one}
 use native.Mathlib.Omega.{arith}
 use lib.Dec.{ltb, eqb}
-use lib.ListN.{length, getD, drop, replicate, drop-of-length-le}
+use lib.ListN.{length, getD, drop, drop-of-length-le}
 use lib.Seq.{drop-cons}
 use Rattle.ground.specs.Cases.{and-true}
-use Rattle.bits.specs.Bits.{num, val, view, word, laid, Bytes}
+use Rattle.bits.specs.Bits.{val, view, word, laid, Bytes}
 use Rattle.bits.specs.Numbers.{word-val}
 use Rattle.bits.specs.Views.{length-view, view-add}
 use Rattle.bits.specs.Laid.{laid-append, laid-none, length-laid}
-use Rattle.bits.specs.Codings.{Coding, Fit, fit, fit-yes, fit-at}
+use Rattle.bits.specs.Codings.{Coding, fit, fit-yes, fit-at}
 use Rattle.bits.specs.Codecs.{FitAll}
 use Rattle.words.specs.Tables.{coding}
 

@@ -1,17 +1,16 @@
 -- Write back a frame that was read: its bytes return, with R = 0 in the prefix byte.
 -- Assumes nothing.
 use mathlib.Core.Path.{_≡_, refl, sym, ap, ap₂, _∙_, subst}
-use mathlib.Core.Bool.{Bool, true, false, cond}
+use mathlib.Core.Bool.{Bool, true, false}
 use mathlib.Core.List.{List, [], _∷_, _++_, append-nil, map}
 use Prim.Native.Nat.{ℕ, zero, suc, _+_, _-_, _*_, _^_, _≤_, _<_}
 use native.Mathlib.Nat.{zero-add}
 use native.Mathlib.Omega.{arith}
-use lib.Dec.{ltb, eqb}
+use lib.Dec.{ltb}
 use lib.ListN.{length, getD, take, drop, replicate, length-append, length-map, length-replicate}
 use lib.Seq.{take-at}
-use borrow.Author.Tests.{lt-ltb, le-ltb, eq-eqb, ltb-true, ltb-false}
+use borrow.Author.Tests.{lt-ltb, eq-eqb, ltb-true, ltb-false}
 use Rattle.ground.specs.Cases.{by-bool}
-use Rattle.ground.specs.Replies.{done}
 use Rattle.bits.specs.Bits.{view, bitsOf, bytesOf, Bytes}
 use Rattle.bits.specs.Bytes.{length-bytes, bits-bytes, bytes-bits, length-bits, view-part}
 use Rattle.bits.specs.Laid.{bits-append, bytes-drop, bytes-take}
@@ -25,14 +24,14 @@ use Rattle.prefix.specs.Prefix.{prefixOf, byteWith, zeroR, prefix-data, prefix-
 use Rattle.prefix.specs.declared.Prefix.{Prefix}
 use Rattle.prefix.specs.declared.Prefix.the-variants.{Data, NoData, NoByte, Marked, Reserved}
 use Rattle.norms.specs.Part.{Writable, writable-ok, norm-bits}
-use Rattle.norms.specs.Answers.{normReply, reply-writable}
+use Rattle.norms.specs.Answers.{reply-writable}
 use Rattle.frame.specs.Kinds.{length-kinds}
 use Rattle.frame.specs.Layout.{Frame, frame, frame-whole, frame-bits, spare, budgetOf, kindsOf, kindsAt, codeBits, tailLeft, codesPart}
 use Rattle.frame.specs.Reads.{spare-le, read-codes-short, read-tail-short, read-started, data-cut, data-whole, length-body}
-use Rattle.frame.specs.Answers.{Outcome, sound, refused, outcome, readBody, bodyOf, started, readAnswer, recordOf, codesAfter, tailBytes, tailAfter}
+use Rattle.frame.specs.Answers.{sound, outcome, readBody, bodyOf, started, readAnswer, recordOf, codesAfter, tailBytes, tailAfter}
 use Rattle.frame.specs.declared.Record.{Record}
-use Rattle.writer.specs.Tests.{clear, quietOf, fits, all-fits}
-use Rattle.writer.specs.Writes.{total, frameOf, bytesFor, budgetFor, kindsFor, earlyReply, lateReply, writeReply, early-norms, late-pad, reply-late}
+use Rattle.writer.specs.Tests.{clear, quietOf, all-fits}
+use Rattle.writer.specs.Writes.{frameOf, bytesFor, budgetFor, kindsFor, earlyReply, lateReply, writeReply, early-norms, late-pad, reply-late}
 
 -- ---- what a sound answer tells
 

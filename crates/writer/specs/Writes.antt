@@ -7,18 +7,18 @@ use Prim.Native.Nat.{ℕ, _+_, _-_, _*_, _≤_, _<_}
 use native.Mathlib.Omega.{arith}
 use lib.Dec.{ltb, leb, eqb}
 use lib.ListN.{length, take, drop}
-use borrow.Author.Tests.{lt-ltb, le-ltb, eq-eqb, ne-eqb, ltb-true, ltb-false, leb-true, leb-false, eqb-true}
+use borrow.Author.Tests.{lt-ltb, le-ltb, eq-eqb, ne-eqb, ltb-true, ltb-false, leb-true, leb-false}
 use Rattle.ground.specs.Cases.{by-bool}
 use Rattle.ground.specs.Replies.{done, pastBudget, outOfRange, shortRoom, wideCode, wrongTail}
 use Rattle.bits.specs.Bits.{view, bytesOf}
-use Rattle.bits.specs.Codecs.{Codec, writeAll}
+use Rattle.bits.specs.Codecs.{writeAll}
 use Rattle.words.specs.Tables.{coding}
 use Rattle.prefix.specs.Sizes.{modeBytes}
 use Rattle.prefix.specs.Prefix.{byteWith}
 use Rattle.norms.specs.Answers.{normReply}
 use Rattle.norms.specs.Part.{normBits}
 use Rattle.frame.specs.Kinds.{length-kinds}
-use Rattle.frame.specs.Layout.{Frame, spare, wideIn, budgetOf, kindsAt, kindsOf, codeBits, frame}
+use Rattle.frame.specs.Layout.{Frame, spare, wideIn, budgetOf, kindsAt, kindsOf, frame}
 use Rattle.frame.specs.declared.Record.{Record}
 use Rattle.writer.specs.Tests.{quietOf, fits, clear}
 use Rattle.writer.specs.declared.Plan.{Plan}

@@ -12,6 +12,7 @@ ghost use Rattle.writer.specs.Bodies.{bodyBits};
 ghost use Rattle.frame.specs.Answers.{flagsOf};
 use frame::Flags;
 use frame::Record;
+use ground::numbers::minus;
 use ground::replies::DONE;
 use ground::replies::OUT_OF_RANGE;
 use ground::replies::PAST_BUDGET;
@@ -117,12 +118,6 @@ fn refusal(reply: u8) -> Writing
     ensures { λ w. ⌜ w ≡ record { reply = reply; next = 0 } ⌝ }
 {
     Writing { reply, next: 0 }
-}
-
-fn minus(a: usize, b: usize) -> usize
-    ensures { λ r. ⌜ r ≡ a - b ⌝ }
-{
-    if b < a { a - b } else { 0 }
 }
 
 fn wide(x: u16) -> usize

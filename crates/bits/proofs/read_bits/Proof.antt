@@ -1,6 +1,6 @@
 -- `bits::read_bits` meets its contract: the bits out of the window, by a shift and a remainder. Assumes nothing.
 use denote.Ref.{now}
-use mathlib.Core.Path.{_≡_, ap, _∙_, sym}
+use mathlib.Core.Path.{ap, _∙_}
 use Prim.Native.Nat.{ℕ, _/_, _%_, _-_, _*_, _^_, _≤_}
 use native.Mathlib.Omega.{arith}
 use Rattle.bits.specs.Numbers.{shifted-pos}

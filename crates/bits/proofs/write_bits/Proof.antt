@@ -1,11 +1,9 @@
 -- `bits::write_bits` meets its contract: the three bytes of the window, changed as one number, lay the bits.
 -- Assumes nothing.
 use denote.Ref.{now}
-use mathlib.Core.Path.{_≡_, ap, _∙_}
-use Prim.Native.Nat.{ℕ, _+_, _-_, _/_, _%_, _≤_, _<_}
+use mathlib.Core.Path.{ap, _∙_}
+use Prim.Native.Nat.{ℕ, _-_, _%_, _≤_, _<_}
 use native.Mathlib.Omega.{arith}
-use lib.ListN.{set}
-use mathlib.Core.List.{List}
 use Rattle.bits.specs.Bits.{word, laid}
 use Rattle.bits.specs.Numbers.{shifted-pos}
 use Rattle.bits.specs.Laid.{made, made-lt, made-laid}

@@ -1,7 +1,7 @@
 -- `frame::all_kinds` meets its contract: a loop that fills eight places at a time. Assumes nothing.
-use mathlib.Core.Path.{_≡_, refl, sym, ap, ap₂, _∙_}
+use mathlib.Core.Path.{_≡_, refl, sym, ap, _∙_}
 use native.Mathlib.Omega.{arith}
-use Prim.Native.Nat.{ℕ, _+_, _-_, _*_, _%_, _≤_, _<_}
+use Prim.Native.Nat.{ℕ, _+_, _-_, _%_, _≤_, _<_}
 use lib.ListN.{length, getD, length-set}
 use Rattle.ground.specs.Fills.{fill-eight, filled}
 use Rattle.frame.specs.Kinds.{bandOf, kindOf, kinds, band-group, kind-group}

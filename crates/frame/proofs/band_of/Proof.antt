@@ -1,5 +1,4 @@
 -- `frame::band_of` meets its contract, by the four lengths. Assumes nothing.
-use mathlib.Core.Path.{_≡_, refl, sym, ap, ap₂, _∙_}
 use native.Mathlib.Omega.{arith}
 use Rattle.frame.specs.Kinds.{band-8, band-16, band-24, band-32}
 use borrow.Author.Needs.{needs}

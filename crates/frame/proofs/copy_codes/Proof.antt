@@ -1,10 +1,9 @@
 -- `frame::copy_codes` meets its contract: the front is copied. Assumes nothing.
 use borrow.Author.Needs.{needs}
-use mathlib.Core.Path.{_≡_, refl, sym, ap, ap₂, _∙_}
+use mathlib.Core.Path.{_≡_, ap, _∙_}
 use native.Mathlib.Omega.{arith}
-use Prim.Native.Nat.{ℕ, _+_, _-_, _*_, _≤_, _<_}
+use Prim.Native.Nat.{ℕ, _+_, _-_}
 use denote.Ref.{now}
-use lib.ListN.{length, getD, length-set}
 use mathlib.Core.List.{List, _++_}
 use lib.ListN.{take, drop}
 use lib.Seq.{take-all}

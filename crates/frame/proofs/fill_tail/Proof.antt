@@ -1,16 +1,13 @@
 -- `frame::fill_tail` meets its contract: each byte from its place. Assumes nothing.
 use borrow.Author.Needs.{needs}
-use mathlib.Core.Path.{_≡_, refl, sym, ap, ap₂, _∙_}
+use mathlib.Core.Path.{_≡_, sym, ap, _∙_}
 use native.Mathlib.Omega.{arith}
-use Prim.Native.Nat.{ℕ, _+_, _-_, _*_, _≤_, _<_}
+use Prim.Native.Nat.{ℕ, _+_, _-_, _*_, _<_}
 use denote.Ref.{now}
-use lib.ListN.{length, getD, length-set}
 use mathlib.Core.List.{List, _++_}
-use lib.ListN.{take, drop, set}
+use lib.ListN.{take, drop}
 use lib.Seq.{take-all}
-use native.Mathlib.Nat.{lt-of-lt-of-le}
 use Rattle.bits.specs.Bits.{val, view}
-use Rattle.bits.specs.Views.{view-lt}
 use Rattle.ground.specs.Fills.{table, getD-table, length-from}
 use Rattle.ground.specs.Copies.{Copied, copied-none, copied-more}
 use Rattle.frame.specs.Answers.{tailFrom}

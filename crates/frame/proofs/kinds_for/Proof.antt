@@ -1,11 +1,7 @@
 -- `frame::kinds_for` meets its contract: the allotment's rates by places. Assumes nothing.
-use mathlib.Core.Path.{_≡_, refl, sym, ap, ap₂, _∙_}
-use native.Mathlib.Omega.{arith}
-use Prim.Native.Nat.{ℕ, _+_, _-_, _*_, _≤_, _<_, min}
-use denote.Ref.{now}
+use mathlib.Core.Path.{ap, ap₂, _∙_}
+use Prim.Native.Nat.{ℕ, _-_}
 use mathlib.Core.Bool.{Bool}
-use mathlib.Core.List.{List, _++_}
-use lib.ListN.{length, drop}
 use Rattle.allotment.specs.Allotment.{sharesOf}
 use Rattle.allotment.specs.declared.Shares.{Shares}
 use Rattle.frame.specs.Kinds.{kinds}

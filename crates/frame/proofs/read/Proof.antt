@@ -1,9 +1,7 @@
 -- `frame::read` meets its contract, in 01's order. Assumes nothing.
-use mathlib.Core.Path.{_≡_, refl, sym, ap, ap₂, _∙_}
-use native.Mathlib.Omega.{arith}
-use Prim.Native.Nat.{ℕ, _+_, _-_, _*_, _≤_, _<_}
+use mathlib.Core.Path.{sym, ap, _∙_}
+use Prim.Native.Nat.{_-_}
 use denote.Ref.{now}
-use mathlib.Core.List.{List}
 use lib.ListN.{length}
 use Rattle.frame.specs.Answers.{readingOf, codesAfter, tailAfter}
 use Rattle.frame.specs.Reads.{read-codes-short, read-tail-short, read-started}

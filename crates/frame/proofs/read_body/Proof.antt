@@ -1,11 +1,8 @@
 -- `frame::read_body` meets its contract: flags, norms, then the rest. Assumes nothing.
-use mathlib.Core.Path.{_≡_, refl, sym, ap, ap₂, _∙_}
-use native.Mathlib.Omega.{arith}
-use Prim.Native.Nat.{ℕ, _+_, _-_, _*_, _≤_, _<_, min}
+use mathlib.Core.Path.{_≡_, sym, ap, _∙_}
+use Prim.Native.Nat.{_-_, _*_}
 use denote.Ref.{now}
-use mathlib.Core.Bool.{Bool}
-use mathlib.Core.List.{List, _++_}
-use lib.ListN.{length, drop}
+use lib.ListN.{length}
 use Rattle.bits.specs.Bits.{view}
 use Rattle.norms.specs.Part.{normPart}
 use Rattle.norms.specs.Answers.{partOf}
@@ -13,7 +10,6 @@ use Rattle.frame.specs.Layout.{isTransient, flagN}
 use Rattle.frame.specs.Answers.{readingOf, codesAfter, tailAfter}
 use Rattle.frame.specs.Reads.{norms-refused, norms-opened}
 use Rattle.frame.specs.declared.Flags.{Flags}
-use Rattle.norms.specs.declared.NormPart.{NormPart}
 use borrow.Author.Needs.{needs}
 use Rattle.frame.proofs.read_body.Statement.{statement}
 use Rattle.frame.proofs.read_body.Tie as tie

@@ -1,11 +1,7 @@
 -- `frame::read_codes` meets its contract: read aside, and copied when the run is done. Assumes nothing.
-use mathlib.Core.Path.{_≡_, refl, sym, ap, ap₂, _∙_}
-use native.Mathlib.Omega.{arith}
-use Prim.Native.Nat.{ℕ, _+_, _-_, _*_, _≤_, _<_, min}
+use mathlib.Core.Path.{sym, ap, _∙_}
+use Prim.Native.Nat.{_-_}
 use denote.Ref.{now}
-use mathlib.Core.Bool.{Bool}
-use mathlib.Core.List.{List, _++_}
-use lib.ListN.{length, drop}
 use Rattle.words.specs.Runs.{runAt, run-not, run-filled}
 use Rattle.frame.specs.Reads.{keptOf}
 use borrow.Author.Needs.{needs}

@@ -1,11 +1,10 @@
 -- `frame::read_data` meets its contract: the body as long as the field says. Assumes nothing.
-use mathlib.Core.Path.{_≡_, refl, sym, ap, ap₂, _∙_}
+use mathlib.Core.Path.{sym, ap, _∙_}
 use native.Mathlib.Omega.{arith}
-use Prim.Native.Nat.{ℕ, _+_, _-_, _*_, _≤_, _<_}
+use Prim.Native.Nat.{_-_}
 use denote.Ref.{now}
-use mathlib.Core.List.{List}
 use lib.ListN.{length}
-use Rattle.frame.specs.Answers.{readingOf, codesAfter, tailAfter, readBody, bodyOf}
+use Rattle.frame.specs.Answers.{readingOf, codesAfter, tailAfter, readBody}
 use Rattle.frame.specs.Reads.{data-cut, data-whole, field-sized, body-part, length-body}
 use borrow.Author.Needs.{needs}
 use Rattle.frame.proofs.read_data.Statement.{statement}

@@ -1,7 +1,4 @@
 -- `frame::read_flags` meets its contract: the first four bits. Assumes nothing.
-use mathlib.Core.Path.{_≡_, refl, sym, ap, ap₂, _∙_}
-use native.Mathlib.Omega.{arith}
-use mathlib.Core.Bool.{Bool}
 use denote.Ref.{now}
 use Rattle.frame.specs.Reads.{flags-made}
 use borrow.Author.Needs.{needs}

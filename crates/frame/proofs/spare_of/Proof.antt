@@ -1,5 +1,4 @@
 -- `frame::spare_of` meets its contract. Assumes nothing.
-use borrow.Author.Needs.{needs}
 use Rattle.frame.specs.Layout.{spare-none, spare-two}
 use Rattle.frame.proofs.spare_of.Statement.{statement}
 use Rattle.frame.proofs.spare_of.Tie as tie

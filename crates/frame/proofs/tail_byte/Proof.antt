@@ -1,11 +1,8 @@
 -- `frame::tail_byte` meets its contract. Assumes nothing.
-use mathlib.Core.Path.{_≡_, refl, sym, ap, _∙_}
-use mathlib.Core.List.{List}
-use mathlib.Core.Bool.{Bool}
+use mathlib.Core.Path.{sym, ap}
 use native.Mathlib.Omega.{arith}
 use denote.Ref.{now}
-use lib.ListN.{length, replicate}
-use Rattle.bits.specs.Bits.{val, view}
+use Rattle.bits.specs.Bits.{val}
 use Rattle.bits.specs.Views.{view-lt, view-past}
 use borrow.Author.Needs.{needs}
 use Rattle.frame.proofs.tail_byte.Statement.{statement}

@@ -1,5 +1,4 @@
 -- `frame::wide_of` meets its contract. Assumes nothing.
-use borrow.Author.Needs.{needs}
 use Rattle.frame.specs.Layout.{wide-small, wide-other}
 use Rattle.frame.proofs.wide_of.Statement.{statement}
 use Rattle.frame.proofs.wide_of.Tie as tie

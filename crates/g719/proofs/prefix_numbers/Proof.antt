@@ -1,7 +1,6 @@
 -- `g719::prefix_numbers` meets its contract: by the case that the answer is. Assumes nothing.
-use mathlib.Core.Path.{_≡_, sym, ap, _∙_}
+use mathlib.Core.Path.{sym, ap, _∙_}
 use Prim.Native.Nat.{ℕ}
-use Rattle.g719.specs.declared.Prefix.{Prefix}
 use Rattle.g719.specs.Numbers.{prefixNumbers}
 use borrow.Author.Needs.{needs}
 use Rattle.g719.proofs.prefix_numbers.Statement.{statement}

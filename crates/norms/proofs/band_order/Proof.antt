@@ -1,5 +1,5 @@
 -- `norms::band_order` meets its contract: the table that is lent has each band's place in 01's order. Assumes nothing.
-use mathlib.Core.Path.{_≡_, refl, _∙_}
+use mathlib.Core.Path.{refl, _∙_}
 use borrow.Author.Tests.{not-true, not-false}
 use Rattle.norms.specs.Order.{places, place-band, banded-plain, banded-turned}
 use Rattle.norms.proofs.band_order.Statement.{statement}

@@ -1,5 +1,5 @@
 -- `norms::cap` meets its contract. Assumes nothing.
-use mathlib.Core.Path.{_≡_, sym, ap, _∙_}
+use mathlib.Core.Path.{ap}
 use lib.ListN.{set}
 use Rattle.norms.specs.Legal.{capped}
 use borrow.Author.Needs.{needs}

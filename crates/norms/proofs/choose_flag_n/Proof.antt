@@ -1,11 +1,6 @@
 -- `norms::choose_flag_n` meets its contract: under 220 with the first index is under 215 without. Assumes nothing.
-use borrow.Author.Tests.{not-true, not-false}
-use mathlib.Core.Path.{_≡_, refl, sym, ap, ap₂, _∙_}
-use mathlib.Core.Bool.{Bool, true, false}
-use mathlib.Core.List.{List, map}
-use native.Mathlib.Omega.{arith}
-use Prim.Native.Nat.{ℕ, _≤_, _<_}
-use lib.ListN.{length, getD}
+use mathlib.Core.Path.{_≡_}
+use lib.ListN.{length}
 use Rattle.norms.specs.Answers.{choice-no, choice-yes}
 use borrow.Author.Needs.{needs}
 use Rattle.norms.proofs.choose_flag_n.Statement.{statement}

@@ -1,8 +1,8 @@
 -- `norms::hold` meets its contract: places up to i are filled, the last of them by `last`. Assumes nothing.
 use borrow.Author.Needs.{needs}
-use mathlib.Core.Path.{_≡_, refl, sym, ap, ap₂, _∙_}
+use mathlib.Core.Path.{_≡_, refl}
 use native.Mathlib.Omega.{arith}
-use Prim.Native.Nat.{ℕ, suc, _+_, _-_, _≤_, _<_}
+use Prim.Native.Nat.{ℕ, _+_, _-_, _≤_, _<_}
 use lib.ListN.{length, getD, length-set}
 use Rattle.ground.specs.Fills.{fill, filled}
 use Rattle.norms.specs.Legal.{risen}

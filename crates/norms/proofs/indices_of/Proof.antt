@@ -1,9 +1,9 @@
 -- `norms::indices_of` meets its contract: the indices so far, and those of the numbers that are left. Assumes nothing.
 use borrow.Author.Needs.{needs}
-use mathlib.Core.Path.{_≡_, refl, sym, ap, ap₂, _∙_}
+use mathlib.Core.Path.{_≡_, refl, sym, ap}
 use native.Mathlib.Omega.{arith}
-use Prim.Native.Nat.{ℕ, suc, _+_, _-_, _≤_, _<_}
-use lib.ListN.{length, getD, length-set}
+use Prim.Native.Nat.{ℕ, _+_, _-_}
+use lib.ListN.{length}
 use Rattle.norms.specs.Answers.{indicesOf}
 use Rattle.norms.specs.Loops.{Stepping, step-start, step-turn, step-low, step-high, step-end}
 use Rattle.norms.proofs.indices_of.Statement.{statement}

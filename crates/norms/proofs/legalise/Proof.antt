@@ -1,11 +1,7 @@
 -- `norms::legalise` meets its contract: the passes one after the other. Assumes nothing.
 use borrow.Author.Tests.{not-true, not-false}
-use mathlib.Core.Path.{_≡_, refl, sym, ap, ap₂, _∙_}
-use mathlib.Core.Bool.{Bool, true, false}
-use mathlib.Core.List.{List, map}
-use native.Mathlib.Omega.{arith}
-use Prim.Native.Nat.{ℕ, _≤_, _<_}
-use lib.ListN.{length, getD}
+use mathlib.Core.Path.{_≡_, sym, ap, _∙_}
+use lib.ListN.{length}
 use Rattle.norms.specs.Order.{banded}
 use Rattle.norms.specs.Legal.{legalOf, legalSent, capped, lowered, held}
 use Rattle.norms.specs.Answers.{legal-no, legal-yes, ready}

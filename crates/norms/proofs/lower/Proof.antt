@@ -1,14 +1,13 @@
 -- `norms::lower` meets its contract: places from i on are filled, the lowest of them by `last`. Assumes nothing.
 use borrow.Author.Needs.{needs}
-use mathlib.Core.Path.{_≡_, refl, sym, ap, ap₂, _∙_, subst⁻¹}
+use mathlib.Core.Path.{_≡_, refl, subst⁻¹}
 use mathlib.Core.List.{List}
 use native.Mathlib.Omega.{arith}
-use Prim.Native.Nat.{ℕ, suc, _+_, _-_, _≤_, _<_}
+use Prim.Native.Nat.{ℕ, _-_, _≤_, _<_}
 use lib.ListN.{length, getD, length-set}
 use Rattle.ground.specs.Fills.{fill-down, filled}
 use Rattle.norms.specs.Legal.{fallen}
 use Rattle.norms.specs.Loops.{fallen-start, fallen-next, lowered-small}
-use native.Mathlib.Decide.{ℕ-discrete}
 use Rattle.norms.proofs.lower.Statement.{statement}
 use Rattle.norms.proofs.lower.Tie as tie
 

@@ -1,5 +1,4 @@
 -- `norms::norm_kinds` meets its contract. Assumes nothing.
-use mathlib.Core.Path.{refl}
 use borrow.Author.Tests.{not-true, not-false}
 use Rattle.norms.specs.Part.{kinds-plain, kinds-words}
 use borrow.Author.Needs.{needs}

@@ -1,11 +1,7 @@
 -- `norms::norm_reply` meets its contract, in 01's order. Assumes nothing.
 use borrow.Author.Tests.{not-true, not-false}
-use mathlib.Core.Path.{_≡_, refl, sym, ap, ap₂, _∙_}
-use mathlib.Core.Bool.{Bool, true, false}
-use mathlib.Core.List.{List, map}
-use native.Mathlib.Omega.{arith}
-use Prim.Native.Nat.{ℕ, _≤_, _<_}
-use lib.ListN.{length, getD}
+use mathlib.Core.Path.{sym, ap, _∙_}
+use mathlib.Core.Bool.{true, false}
 use Rattle.norms.specs.Steps.{stepsClose}
 use Rattle.norms.specs.Answers.{reply-range, reply-first, reply-steps}
 use borrow.Author.Needs.{needs}

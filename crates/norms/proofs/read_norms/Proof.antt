@@ -1,13 +1,7 @@
 -- `norms::read_norms` meets its contract: a run of words, then the indices, then band order. Assumes nothing.
 use borrow.Author.Tests.{not-true, not-false}
-use mathlib.Core.Path.{_≡_, refl, sym, ap, ap₂, _∙_}
-use mathlib.Core.Bool.{Bool, true, false}
-use mathlib.Core.List.{List, map}
-use native.Mathlib.Omega.{arith}
-use Prim.Native.Nat.{ℕ, _≤_, _<_}
-use lib.ListN.{length, getD}
+use mathlib.Core.Path.{refl}
 use denote.Ref.{now}
-use Rattle.norms.specs.Order.{banded}
 use Rattle.norms.specs.Reads.{read-refused, read-outside, read-sound}
 use borrow.Author.Needs.{needs}
 use Rattle.norms.proofs.read_norms.Statement.{statement}

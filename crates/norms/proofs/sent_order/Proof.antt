@@ -1,5 +1,5 @@
 -- `norms::sent_order` meets its contract: the table that is lent is 01's order. Assumes nothing.
-use mathlib.Core.Path.{_≡_, refl, _∙_}
+use mathlib.Core.Path.{refl, _∙_}
 use borrow.Author.Tests.{not-true, not-false}
 use Rattle.norms.specs.Order.{order, band-place, sent-plain, sent-turned}
 use Rattle.norms.proofs.sent_order.Statement.{statement}

@@ -1,9 +1,8 @@
 -- `norms::steps_close` meets its contract: the differences before place i are close. Assumes nothing.
 use borrow.Author.Needs.{needs}
-use mathlib.Core.Path.{_≡_, refl, sym, ap, ap₂, _∙_}
-use native.Mathlib.Omega.{arith}
-use Prim.Native.Nat.{ℕ, suc, _+_, _-_, _≤_, _<_}
-use lib.ListN.{length, getD, length-set}
+use mathlib.Core.Path.{_≡_, sym}
+use Prim.Native.Nat.{_-_}
+use lib.ListN.{length}
 use Rattle.norms.specs.Loops.{Closing, close-start, close-turn, close-down, close-up, close-end}
 use Rattle.norms.proofs.steps_close.Statement.{statement}
 use Rattle.norms.proofs.steps_close.Tie as tie

@@ -1,5 +1,5 @@
 -- `prefix::read_prefix` meets its contract, case by case as 01 orders them. Assumes nothing.
-use mathlib.Core.Path.{sym, ap, _∙_}
+use mathlib.Core.Path.{sym, _∙_}
 use native.Mathlib.Omega.{arith}
 use denote.Ref.{now}
 use Rattle.prefix.specs.Prefix.{read-none, read-some, read-said, byte-marked, said-none, said-low, said-high, said-data}

@@ -1,8 +1,7 @@
 -- `words::bits_in` meets its contract: as many bits as were spelt. Assumes nothing.
-use mathlib.Core.Path.{_≡_, ap, sym, _∙_}
+use mathlib.Core.Path.{ap, sym, _∙_}
 use lib.ListN.{length}
 use Rattle.bits.specs.Numbers.{length-word}
-use borrow.Author.Needs.{needs}
 use Rattle.words.proofs.bits_in.Statement.{statement}
 use Rattle.words.proofs.bits_in.Tie as tie
 

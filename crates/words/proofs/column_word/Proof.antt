@@ -1,14 +1,12 @@
 -- `words::column_word` meets its contract: by what the look-up's entry says of the bits at the place. Assumes nothing.
 use native.Mathlib.Omega.{arith}
 use denote.Ref.{now}
-use mathlib.Core.Path.{_≡_, ap, ap₂, sym, _∙_}
-use Prim.Native.Nat.{ℕ, _+_, _-_, _*_, _%_, _/_, _≤_, _<_}
+use mathlib.Core.Path.{_≡_, ap}
+use Prim.Native.Nat.{_+_, _-_, _*_, _%_, _/_}
 use lib.Dec.{T}
-use lib.ListN.{length}
 use native.Mathlib.Nat.{le-refl}
 use Rattle.bits.specs.Bits.{val, view}
 use Rattle.bits.specs.Views.{view-lt, length-view}
-use Rattle.words.specs.Answers.{placed}
 use Rattle.words.specs.Look.{right, begins-fine, begins-refused, begins-cut, entry-lacking, entry-word, entry-lt}
 use Rattle.words.specs.declared.Word.the-variants.{At}
 use borrow.Author.Needs.{needs}

@@ -1,6 +1,6 @@
 -- `words::has_word` meets its contract: below 2 to the bits, or below the column's size. Assumes nothing.
 use native.Mathlib.Omega.{arith}
-use mathlib.Core.Path.{_≡_, ap, sym, _∙_}
+use mathlib.Core.Path.{ap, _∙_}
 use lib.Dec.{ltb}
 use Rattle.bits.specs.Numbers.{shifted-one}
 use Rattle.words.specs.Spell.{fit-fixed, fit-column}

@@ -1,7 +1,5 @@
 -- `words::spelt` meets its contract: the number itself, no bits, or the word back from its number. Assumes nothing.
 use native.Mathlib.Omega.{arith}
-use mathlib.Core.Path.{_≡_, ap, sym, _∙_}
-use Prim.Native.Nat.{ℕ, _≤_}
 use Rattle.words.specs.Spell.{spelt-fixed, spelt-none, spelt-word}
 use borrow.Author.Needs.{needs}
 use Rattle.words.proofs.spelt.Statement.{statement}

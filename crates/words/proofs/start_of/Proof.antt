@@ -1,11 +1,10 @@
 -- `words::start_of` meets its contract, by one test computed over the six places.
 -- Assumes nothing.
 use borrow.Author.Needs.{needs}
-use mathlib.Core.Path.{_∙_}
 use mathlib.Core.Bool.{Bool, _&&_}
 use mathlib.Core.List.{List, [], _∷_}
 use Prim.Native.Nat.{ℕ}
-use lib.Dec.{T, eqb, leb, eqb→eq, leb→le}
+use lib.Dec.{eqb, leb, eqb→eq, leb→le}
 use lib.ListN.{getD}
 use Rattle.ground.specs.Cases.{and-T}
 use Rattle.ground.specs.Tables.{every-at}

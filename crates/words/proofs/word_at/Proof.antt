@@ -1,7 +1,6 @@
 -- `words::word_at` meets its contract: the look-up that is lent is the whole one. Assumes nothing.
 use mathlib.Core.Path.{refl}
 use Rattle.words.specs.Look.{lookTable}
-use borrow.Author.Needs.{needs}
 use Rattle.words.proofs.word_at.Statement.{statement}
 use Rattle.words.proofs.word_at.Tie as tie
 

@@ -1,7 +1,6 @@
 -- `words::word_bits` meets its contract: the words that are lent are all of them. Assumes nothing.
 use mathlib.Core.Path.{refl}
 use Rattle.words.specs.Spell.{spellTable}
-use borrow.Author.Needs.{needs}
 use Rattle.words.proofs.word_bits.Statement.{statement}
 use Rattle.words.proofs.word_bits.Tie as tie
 

@@ -1,10 +1,9 @@
 -- `writer::all_clear` meets its contract: the bits passed are 0. Assumes nothing.
 use borrow.Author.Needs.{needs}
-use mathlib.Core.Path.{_≡_, refl, sym, ap, ap₂, _∙_}
+use mathlib.Core.Path.{sym}
 use native.Mathlib.Omega.{arith}
-use Prim.Native.Nat.{ℕ, _+_, _-_, _*_, _≤_, _<_}
+use Prim.Native.Nat.{_-_, _<_}
 use denote.Ref.{now}
-use lib.ListN.{length, getD}
 use Rattle.writer.specs.Tests.{Clearing, clear-start, clear-no, clear-turn, clear-end}
 use Rattle.writer.proofs.all_clear.Statement.{statement}
 use Rattle.writer.proofs.all_clear.Tie as tie

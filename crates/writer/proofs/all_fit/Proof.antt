@@ -1,10 +1,10 @@
 -- `writer::all_fit` meets its contract: every number passed fits. Assumes nothing.
 use borrow.Author.Needs.{needs}
-use mathlib.Core.Path.{_≡_, refl, sym, ap, ap₂, _∙_}
+use mathlib.Core.Path.{sym, _∙_}
 use native.Mathlib.Omega.{arith}
-use Prim.Native.Nat.{ℕ, _+_, _-_, _*_, _≤_, _<_}
+use Prim.Native.Nat.{_-_}
 use denote.Ref.{now}
-use lib.ListN.{length, getD}
+use lib.ListN.{length}
 use borrow.Author.Tests.{not-true, not-false}
 use Rattle.writer.specs.Tests.{Fitting, fit-start, fit-no, fit-turn, fit-end}
 use Rattle.writer.proofs.all_fit.Statement.{statement}

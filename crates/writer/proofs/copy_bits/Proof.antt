@@ -1,10 +1,8 @@
 -- `writer::copy_bits` meets its contract: the bits so far are laid. Assumes nothing.
 use borrow.Author.Needs.{needs}
-use mathlib.Core.Path.{_≡_, refl, sym, ap, ap₂, _∙_}
 use native.Mathlib.Omega.{arith}
-use Prim.Native.Nat.{ℕ, _+_, _-_, _*_, _≤_, _<_}
+use Prim.Native.Nat.{_-_, _<_}
 use denote.Ref.{now}
-use lib.ListN.{length, getD}
 use Rattle.writer.specs.Tests.{Copying, copy-start, copy-turn, copy-end}
 use Rattle.writer.proofs.copy_bits.Statement.{statement}
 use Rattle.writer.proofs.copy_bits.Tie as tie

@@ -1,11 +1,6 @@
 -- `writer::flag_number` meets its contract. Assumes nothing.
-use mathlib.Core.Path.{_≡_, refl, sym, ap, ap₂, _∙_}
-use native.Mathlib.Omega.{arith}
-use Prim.Native.Nat.{ℕ, _+_, _-_, _*_, _≤_, _<_, min}
-use denote.Ref.{now}
-use lib.ListN.{length, take}
-use mathlib.Core.Bool.{Bool, true, false}
-use mathlib.Core.List.{List, map}
+use mathlib.Core.Path.{ap₂, _∙_}
+use Prim.Native.Nat.{ℕ, _+_, _-_, _*_}
 use Rattle.bits.specs.Bits.{num, word}
 use Rattle.writer.specs.Bodies.{flag-word}
 use borrow.Author.Needs.{needs}

@@ -1,11 +1,7 @@
 -- `writer::plan_of` meets its contract: norm bits, budget and kinds. Assumes nothing.
-use mathlib.Core.Path.{_≡_, refl, sym, ap, ap₂, _∙_}
+use mathlib.Core.Path.{ap, ap₂, _∙_}
 use native.Mathlib.Omega.{arith}
-use Prim.Native.Nat.{ℕ, _+_, _-_, _*_, _≤_, _<_}
-use denote.Ref.{now}
-use lib.ListN.{length, take}
-use mathlib.Core.Bool.{Bool, true, false}
-use mathlib.Core.List.{List}
+use Prim.Native.Nat.{ℕ, _+_, _-_, _*_}
 use Rattle.norms.specs.Part.{bits-few}
 use Rattle.frame.specs.Layout.{spare, wideIn, kindsAt}
 use Rattle.frame.specs.declared.Flags.{Flags}

@@ -1,10 +1,9 @@
 -- `writer::write_body` meets its contract: part after part. Assumes nothing.
-use mathlib.Core.Path.{_≡_, refl, sym, ap, ap₂, _∙_}
+use mathlib.Core.Path.{sym, ap, _∙_}
 use native.Mathlib.Omega.{arith}
-use Prim.Native.Nat.{ℕ, _+_, _-_, _*_, _≤_, _<_, min}
+use Prim.Native.Nat.{ℕ, _+_, _-_, _≤_}
 use denote.Ref.{now}
-use lib.ListN.{length, take}
-use mathlib.Core.Bool.{Bool, true, false}
+use lib.ListN.{length}
 use mathlib.Core.List.{List, map}
 use Rattle.bits.specs.Bits.{laid, view}
 use Rattle.bits.specs.Codecs.{writeAll}

@@ -1,5 +1,5 @@
 -- `prefix::Length::mode` meets its contract: mode = L − 8. Assumes nothing.
-use mathlib.Core.Path.{sym, _∙_}
+use mathlib.Core.Path.{sym}
 use native.Mathlib.Omega.{arith}
 use Rattle.prefix.specs.Sizes.{a2-below, a2-above, a2-between}
 use Rattle.prefix.proofs.Length.mode.Statement.{statement}

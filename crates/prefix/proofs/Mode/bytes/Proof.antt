@@ -1,5 +1,5 @@
 -- `prefix::Mode::bytes` meets its contract, by Table A.2's two formulas. Assumes nothing.
-use mathlib.Core.Path.{sym, ap, _∙_}
+use mathlib.Core.Path.{sym}
 use native.Mathlib.Omega.{arith}
 use Rattle.prefix.specs.Sizes.{mode-past, mode-ten, mode-twenty}
 use borrow.Author.Needs.{needs}

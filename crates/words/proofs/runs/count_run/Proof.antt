@@ -1,8 +1,7 @@
 -- `words::runs::count_run` meets its contract: the bits of the words so far, and those of the rest. Assumes nothing.
-use borrow.Author.Needs.{needs}
 use native.Mathlib.Omega.{arith}
 use denote.Ref.{now}
-use Prim.Native.Nat.{ℕ, _-_, _≤_, _<_}
+use Prim.Native.Nat.{_-_}
 use lib.ListN.{length, getD}
 use Rattle.words.specs.Spell.{word-few}
 use Rattle.words.specs.Writes.{Counting, count-start, count-turn, counted}

@@ -1,5 +1,5 @@
 -- `words::runs::passed` meets its contract, case by case. Assumes nothing.
-use mathlib.Core.Path.{sym, ap, _∙_}
+use mathlib.Core.Path.{sym, ap}
 use Rattle.words.specs.Runs.{passedUp}
 use borrow.Author.Needs.{needs}
 use Rattle.words.proofs.runs.passed.Statement.{statement}

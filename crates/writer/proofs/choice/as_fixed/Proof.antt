@@ -1,7 +1,6 @@
 -- `writer::choice::as_fixed` meets its contract. Assumes nothing.
-use mathlib.Core.Path.{_≡_, refl, sym, ap, _∙_}
+use mathlib.Core.Path.{_∙_}
 use native.Mathlib.Omega.{arith}
-use Prim.Native.Nat.{ℕ, _+_, _≤_, _<_}
 use Rattle.writer.specs.Choice.{fixed-yes, fixed-low, fixed-high}
 use borrow.Author.Needs.{needs}
 use Rattle.writer.proofs.choice.as_fixed.Statement.{statement}

@@ -1,7 +1,5 @@
 -- `writer::choice::as_word` meets its contract. Assumes nothing.
-use mathlib.Core.Path.{_≡_, refl, sym, ap, _∙_}
 use native.Mathlib.Omega.{arith}
-use Prim.Native.Nat.{ℕ, _+_, _≤_, _<_}
 use Rattle.writer.specs.Choice.{word-yes, word-low, word-high}
 use borrow.Author.Needs.{needs}
 use Rattle.writer.proofs.choice.as_word.Statement.{statement}

@@ -1,5 +1,5 @@
 -- `writer::choice::start_reply` meets its contract, in 01's order. Assumes nothing.
-use mathlib.Core.Path.{_≡_, refl, sym, ap, _∙_}
+use mathlib.Core.Path.{_∙_}
 use Rattle.writer.specs.Choice.{start-mode, start-short, start-norms}
 use borrow.Author.Needs.{needs}
 use Rattle.writer.proofs.choice.start_reply.Statement.{statement}

@@ -1,9 +1,8 @@
 -- `writer::choice::words_cheaper` meets its contract: both costs of the places passed. Assumes nothing.
-use mathlib.Core.Path.{_≡_, refl, sym, ap, ap₂, _∙_}
 use native.Mathlib.Omega.{arith}
-use Prim.Native.Nat.{ℕ, _+_, _-_, _*_, _≤_, _<_}
+use Prim.Native.Nat.{_-_, _≤_}
 use denote.Ref.{now}
-use lib.ListN.{length, getD}
+use lib.ListN.{length}
 use Rattle.writer.specs.Choice.{Costing, cost-start, cost-turn, cost-end}
 use borrow.Author.Needs.{needs}
 use Rattle.writer.proofs.choice.words_cheaper.Statement.{statement}
