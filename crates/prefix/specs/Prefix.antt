@@ -7,9 +7,12 @@ use Prim.Native.Nat.{ℕ, zero, suc, _+_, _-_, _*_, _/_, _%_, _≤_, _<_}
 use native.Mathlib.Omega.{arith}
 use lib.Dec.{eqb, ltb}
 use lib.ListN.{length, getD}
-use borrow.Author.Tests.{eq-eqb, ne-eqb, lt-ltb, le-ltb, eqb-false}
+use borrow.Author.Tests.{eq-eqb, ne-eqb, lt-ltb, le-ltb, ltb-true, ltb-false, eqb-false}
 use Rattle.ground.specs.Replies.{done, noByte, marked, reserved, outOfRange, noData}
-use Rattle.prefix.specs.Sizes.{Size, noBody, notGiven, sized, tableA2, lengthBytes, a2-none, a2-low, a2-high, a2-sized, same-size}
+use Rattle.ground.specs.Cases.{by-bool}
+use Rattle.prefix.specs.Sizes.{Size, noBody, notGiven, sized, tableA2, lengthBytes, lengthOf, a2-none, a2-low, a2-high, a2-sized, same-size, length-mode, no-length}
+use Rattle.prefix.specs.declared.Field.{Field}
+use Rattle.prefix.specs.declared.Field.the-variants as field
 use Rattle.prefix.specs.declared.Length.{Length}
 use Rattle.prefix.specs.declared.Prefix.{Prefix}
 use Rattle.prefix.specs.declared.Prefix.the-variants.{Data, NoData, NoByte, Marked, Reserved}
@@ -133,6 +136,17 @@ byte-mode m h = rw (lt-ltb m 20 h)
 pub byte-none : (m : ℕ) → 19 < m → byteOf m ≡ OutOfRange
 unfolding byteOf
 byte-none m h = rw (le-ltb m 20 h)
+
+-- the byte of the field L that names the mode's size
+abbrev pub byteNamed : Field → Byte
+byteNamed field.None = OutOfRange
+byteNamed (field.Is f) = Is (f .0 * 4)
+
+pub byte-named : (m : ℕ) → byteOf m ≡ byteNamed (lengthOf m)
+byte-named m =
+    by-bool (ltb m 20)
+    (λ t. let h = ltb-true m 20 t in byte-mode m h ∙ (let e : byteWith 0 (m + 8) 0 ≡ (m + 8) * 4 = omega arith in ap Is e) ∙ sym (ap byteNamed (length-mode m h)))
+    (λ t. let h = ltb-false m 20 t in byte-none m h ∙ sym (ap byteNamed (no-length m h)))
 
 -- a prefix that says data has F 0, and its field L is 8 to 27
 said-sized : (z : Size) (l : ℕ) (f : Length) → tableA2 l ≡ z → said z l ≡ Data f → (8 ≤ f .0) × (f .0 ≤ 27) × (l ≡ f .0)

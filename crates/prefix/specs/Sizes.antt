@@ -10,6 +10,8 @@ use lib.ListN.{length, getD, List·getD-eq-default}
 use borrow.Author.Tests.{eq-eqb, ne-eqb, lt-ltb, le-ltb, le-leb, lt-leb, ltb-true, ltb-false, leb-true, leb-false}
 use Rattle.ground.specs.Cases.{by-bool, and-T}
 use Rattle.ground.specs.Tables.{every, every-at}
+use Rattle.prefix.specs.declared.Mode.{Mode}
+use Rattle.prefix.specs.declared.Length.{Length}
 use Rattle.prefix.specs.declared.Field.{Field}
 use Rattle.prefix.specs.declared.Field.the-variants as field
 use Rattle.prefix.specs.declared.Rate.{Rate}
@@ -172,6 +174,41 @@ pub a2-between : (l : ℕ) → 8 ≤ l → l ≤ 27 → (lengthBytes l ≡ modeB
 a2-between l p h =
     let e : l - 8 + 8 ≡ l = omega arith in
     (ap lengthBytes (sym e) ∙ length-bytes (l - 8) (omega arith), ap modeOf (sym e) ∙ mode-length (l - 8) (omega arith))
+
+-- a field's bytes are those of the mode that it names
+abbrev pub bytesNamed : Rate → ℕ
+bytesNamed rate.None = 0
+bytesNamed (rate.Is m) = modeBytes (m .0)
+
+pub bytes-named : (l : ℕ) → lengthBytes l ≡ bytesNamed (modeOf l)
+bytes-named l =
+    by-bool (ltb l 8) (λ t. let a = a2-below l (ltb-true l 8 t) in a .0 ∙ sym (ap bytesNamed (a .1)))
+    (λ t.
+    by-bool (leb l 27) (λ u. let a = a2-between l (ltb-false l 8 t) (leb-true l 27 u) in a .0 ∙ sym (ap bytesNamed (a .1)))
+    (λ u. let a = a2-above l (leb-false l 27 u) in a .0 ∙ sym (ap bytesNamed (a .1))))
+
+-- the mode that a field of 8 to 27 names is L − 8
+number : Rate → ℕ
+number rate.None = 0
+number (rate.Is m) = m .0
+
+pub mode-less-8 : (l : ℕ) → 8 ≤ l → l ≤ 27 → (m : Mode) → modeOf l ≡ rate.Is m → m .0 ≡ l - 8
+unfolding number
+mode-less-8 l p h m e = ap number (sym e ∙ a2-between l p h .1)
+
+pub mode-given : (l : ℕ) → 8 ≤ l → l ≤ 27 → modeOf l ≡ rate.None → ⊥
+mode-given l p h e = let w = sym e ∙ a2-between l p h .1 in let z : _≡_ {A = ℕ} 0 1 = cc in omega arith
+
+-- the field L that names a mode's size is at most 27
+pub field-most : (m : ℕ) (f : Length) → lengthOf m ≡ field.Is f → f .0 ≤ 27
+field-most m f e =
+    by-bool (ltb m 20)
+    (λ t. let q : m + 8 ≡ f .0 = ap numbered (sym (length-mode m (ltb-true m 20 t)) ∙ e) in omega (arith, ltb-true m 20 t))
+    (λ t. absurd (let w = sym (no-length m (ltb-false m 20 t)) ∙ e in let z : _≡_ {A = ℕ} 0 1 = cc in omega arith))
+  where
+    numbered : Field → ℕ
+    numbered field.None = 0
+    numbered (field.Is f) = f .0
 
 -- ---- what the code computes
 

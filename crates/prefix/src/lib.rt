@@ -64,27 +64,24 @@ impl Mode {
     pub fn field(self) -> Field
         ensures { λ r. ⌜ r ≡ lengthOf (self .0) ⌝ }
     {
-        let m = self.0;
-        if 19 < m {
+        let number = self.0;
+        if 19 < number {
             return Field::None;
         }
-        Field::Is(Length(m + 8))
+        Field::Is(Length(number + 8))
     }
 }
 
 impl Length {
-    // Body bytes by Table A.2; 0 for no data and for a reserved L.
+    // Body bytes by Table A.2, those of its mode; 0 for no data and for a reserved L.
     pub fn bytes(self) -> u16
         ensures { λ r. ⌜ r ≡ lengthBytes (self .0) ⌝ }
     {
-        let l = self.0;
-        if l < 8 {
+        let named = self.mode();
+        let Rate::Is(mode) = named else {
             return 0;
-        }
-        if 27 < l {
-            return 0;
-        }
-        Mode(l - 8).bytes()
+        };
+        mode.bytes()
     }
 
     // The mode that names the same size.
@@ -130,9 +127,10 @@ pub fn read_prefix(s: &[u8]) -> Prefix
 pub fn write_prefix(mode: Mode) -> Byte
     ensures { λ r. ⌜ r ≡ byteOf (mode .0) ⌝ }
 {
-    let number = mode.0;
-    if 19 < number {
+    let named = mode.field();
+    let Field::Is(field) = named else {
         return Byte::OutOfRange;
-    }
-    Byte::Is((number + 8) * 4)
+    };
+    let l = field.0;
+    Byte::Is(l * 4)
 }
