@@ -7,6 +7,7 @@ ghost use Rattle.bits.specs.Bits.{view, bit, val};
 ghost use Rattle.words.specs.Runs.{ran, runAt};
 ghost use Rattle.prefix.specs.Sizes.{modeBytes};
 ghost use Rattle.prefix.specs.Prefix.{prefixOf};
+ghost use Rattle.allotment.specs.Allotment.{sharesOf};
 ghost use Rattle.frame.specs.Kinds.{bandOf, kindOf, kinds};
 ghost use Rattle.frame.specs.Layout.{spare, wideIn, kindsAt};
 ghost use Rattle.frame.specs.Answers.{Outcome, flagsOf, stoppedAt, started, readBody, readAnswer, readingOf, codesAfter, tailAfter, tailFrom};
@@ -21,6 +22,7 @@ use ground::replies::RESERVED;
 use ground::replies::SHORT_ROOM;
 use prefix::Length;
 use prefix::Prefix;
+use prefix::Rate;
 use words::runs::Run;
 
 // A frame's record, beside 800 codes and 320 tail bytes.
@@ -89,7 +91,7 @@ fn kind_of(flag_c: bool, rate: u8, i: usize) -> u8
 }
 
 // Eight places at a time: they lie in one band, and all but the first are of one kind.
-fn all_kinds(flag_c: bool, rates: [u8; 44]) -> [u8; 800]
+pub fn all_kinds(flag_c: bool, rates: [u8; 44]) -> [u8; 800]
     ensures { λ r. ⌜ r ≡ kinds «flag_c» rates ⌝ }
 {
     let mut out = [0u8; 800];
@@ -124,15 +126,21 @@ fn wide_of(end: usize, flag_l: bool) -> bool
     if end == 640 { flag_l } else { true }
 }
 
+// The rates of the 44 bands in a body of `end` bits, from flags, norms and budget.
+pub fn rates_for(flags: Flags, norms: [u8; 44], budget: u32, end: usize) -> [u8; 44]
+    ensures { λ r. ⌜ r ≡ sharesOf (flags .transient) (wideIn end (flags .l)) norms budget .rates ⌝ }
+{
+    let shares = allotment::allot(flags.transient, wide_of(end, flags.l), norms, budget);
+    shares.rates
+}
+
 // The kinds of the 800 places, from flags and norms whose bits end at a place.
-pub fn kinds_for(flags: Flags, norms: [u8; 44], at: usize, end: usize) -> [u8; 800]
+fn kinds_for(flags: Flags, norms: [u8; 44], at: usize, end: usize) -> [u8; 800]
     requires { ⌜ end < 4294967296 ⌝ }
     ensures { λ r. ⌜ r ≡ kindsAt (flags .transient) (wideIn end (flags .l)) (flags .c) norms (end - at - spare (flags .transient)) ⌝ }
 {
-    let transient = flags.transient;
-    let budget = minus(minus(end, at), spare_of(transient));
-    let shares = allotment::allot(transient, wide_of(end, flags.l), norms, budget as u32);
-    let rates = shares.rates;
+    let budget = minus(minus(end, at), spare_of(flags.transient));
+    let rates = rates_for(flags, norms, budget as u32, end);
     all_kinds(flags.c, rates)
 }
 
@@ -315,8 +323,11 @@ fn read_data(src: &[u8], field: Length, codes: &mut [u16], tail: &mut [u8]) -> R
     }
     let e = n + 1;
     let body = &src[1..e];
-    let mode = field.0 - 8;
-    read_body(body, mode, codes, tail)
+    let named = field.mode();
+    let Rate::Is(mode) = named else {
+        return refusal(RESERVED, 0);
+    };
+    read_body(body, mode.0, codes, tail)
 }
 
 // Reads the stored frame at the start of a slice: 10, 1, 2, 3, 14, 4, 5, then 6 or 7, first met. Only 0 changes the lent numbers and bytes.

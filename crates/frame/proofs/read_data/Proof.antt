@@ -1,83 +1,76 @@
--- `frame::read_data` meets its contract: the body as long as the field says. Assumes nothing.
-use mathlib.Core.Path.{sym, ap, _∙_}
+-- `frame::read_data` meets its contract: the body as long as the field says, of the mode that it names. Assumes nothing.
+use mathlib.Core.Path.{_≡_, sym, ap, ap₂, _∙_}
 use native.Mathlib.Omega.{arith}
-use Prim.Native.Nat.{_-_}
+use Prim.Native.Nat.{_-_, _<_}
 use denote.Ref.{now}
 use lib.ListN.{length}
-use Rattle.frame.specs.Answers.{readingOf, codesAfter, tailAfter, readBody}
-use Rattle.frame.specs.Reads.{data-cut, data-whole, field-sized, body-part, length-body}
+use Rattle.prefix.specs.Sizes.{modeBytes}
+use Rattle.frame.specs.Answers.{readingOf, codesAfter, tailAfter, readBody, started}
+use Rattle.frame.specs.Reads.{data-cut, data-whole, field-sized, field-mode, field-named, body-part, length-body}
 use borrow.Author.Needs.{needs}
 use Rattle.frame.proofs.read_data.Statement.{statement}
 use Rattle.frame.proofs.read_data.Tie as tie
 
-bytes-requires : tie.Need-bytes-requires
-bytes-requires c κs = search needs
-
-cast-n : tie.Need-cast-n
-cast-n c = search needs
-
-refusal-requires : tie.Need-refusal-requires
-refusal-requires c κs = search needs
-
 returns : tie.Need-returns
 returns c =
-    let a = c .before .before .before .before .before .before .args in
-    let r = data-cut (now (a .src)) (a .field) _ (c .before .before .bytes .ensures) (c .before .if1 .taken) in
-    (c .refusal .ensures ∙ ap readingOf (sym r), ap (codesAfter (now (a .codes))) (sym r), ap (tailAfter (now (a .tail))) (sym r))
+    let b : tie.After-bytes = search in
+    let a : tie.Start = search in
+    let r = data-cut (now (a .args .src)) (a .args .field) _ (b .bytes .ensures) (search) in
+    (c .refusal .ensures ∙ ap readingOf (sym r), ap (codesAfter (now (a .args .codes))) (sym r), ap (tailAfter (now (a .args .tail))) (sym r))
 
-add-e : tie.Need-add-e
-add-e c = search needs
+-- the field of a prefix that says data names a mode
+returns-2 : tie.Need-returns-2
+returns-2 c =
+    let t : tie.After-enum-told = search in
+    let m : tie.After-mode = search in
+    let a : tie.Start = search in
+    absurd (field-named (now (a .args .src)) (a .args .field) (a .pre .0) (sym (m .mode .ensures) ∙ t .enum-told .given .1))
 
-sub-body : tie.Need-sub-body
-sub-body c = search needs
-
-part-body-start : tie.Need-part-body-start
-part-body-start c = search needs
-
-part-body-end : tie.Need-part-body-end
-part-body-end c = search needs
-
-sub-mode : tie.Need-sub-mode
-sub-mode c =
-    let a = c .before .before .before .before .before .before .before .args in
-    omega (arith, field-sized (now (a .src)) (a .field) _ (c .before .before .before .before .before .before .before .pre .0) (c .before .before .before .bytes .ensures) .low)
+mode-is : (n : tie.After-named) → let a : tie.Start = search in n .named .given .0 .0 .0 ≡ a .args .field .0 - 8
+mode-is n =
+    let m : tie.After-mode = search in
+    let a : tie.Start = search in
+    field-mode (now (a .args .src)) (a .args .field) (a .pre .0) _ (sym (m .mode .ensures) ∙ n .named .given .1)
 
 read-body-requires : tie.Need-read-body-requires
 read-body-requires c κs =
-    let a = c .before .before .before .before .before .before .before .before .before .args in
-    let n = c .before .before .before .before .before .bytes .result in
-    let z = field-sized (now (a .src)) (a .field) n (c .before .before .before .before .before .before .before .before .before .pre .0) (c .before .before .before .before .before .bytes .ensures) in
-    let l = ap length (body-part (now (a .src)) n (c .before .before .before .before .if1 .left)) ∙ length-body (now (a .src)) n (c .before .before .before .before .if1 .left) in
-    ((omega (arith, l, z .least), omega (arith, l, z .most), l ∙ z .mode), c .before .before .before .before .before .before .before .before .before .pre .1)
+    let e : tie.Else1 = search in
+    let b : tie.After-bytes = search in
+    let a : tie.Start = search in
+    let s = now (a .args .src) in
+    let z = field-sized s (a .args .field) _ (a .pre .0) (b .bytes .ensures) in
+    let l = ap length (body-part s _ (e .if1 .left)) ∙ length-body s _ (e .if1 .left) in
+    ((omega (arith, l, z .least), omega (arith, l, z .most), l ∙ z .mode ∙ ap modeBytes (sym (mode-is (search)))), a .pre .1)
 
-same-length : tie.Need-same-length
-same-length c = search needs
-
-same-length-2 : tie.Need-same-length-2
-same-length-2 c = search needs
-
-returns-2 : tie.Need-returns-2
-returns-2 c =
-    let a = c .before .before .before .before .before .before .before .before .before .before .before .before .before .before .args in
-    let n = c .before .before .before .before .before .before .before .before .before .before .bytes .result in
-    let b = c .before .before .before .before .read-body .ensures in
-    let r = ap (readBody (a .field .0 - 8)) (body-part (now (a .src)) n (c .before .before .before .before .before .before .before .before .before .if1 .left)) ∙ sym (data-whole (now (a .src)) (a .field) n (c .before .before .before .before .before .before .before .before .before .before .bytes .ensures) (c .before .before .before .before .before .before .before .before .before .if1 .left)) in
-    (b .0 ∙ ap readingOf r, b .1 ∙ ap (codesAfter (now (a .codes))) r, b .2 ∙ ap (tailAfter (now (a .tail))) r)
+returns-3 : tie.Need-returns-3
+returns-3 c =
+    let r : tie.After-read-body = search in
+    let n : tie.After-named = search in
+    let e : tie.Else1 = search in
+    let b : tie.After-bytes = search in
+    let a : tie.Start = search in
+    let s = now (a .args .src) in
+    let q = ap₂ readBody (mode-is n) (body-part s _ (e .if1 .left)) ∙ sym (data-whole s (a .args .field) _ (b .bytes .ensures) (e .if1 .left)) in
+    (r .read-body .ensures .0 ∙ ap readingOf q, r .read-body .ensures .1 ∙ ap (codesAfter (now (a .args .codes))) q, r .read-body .ensures .2 ∙ ap (tailAfter (now (a .args .tail))) q)
 
 pub read-data-spec : {M : Type 1} → statement M
 read-data-spec =
     tie.close
     (tie.spec
-    bytes-requires
-    cast-n
-    refusal-requires
+    (λ c κs. search needs)
+    (λ c. search needs)
+    (λ c κs. search needs)
     returns
-    add-e
-    sub-body
-    part-body-start
-    part-body-end
-    sub-mode
+    (λ c. search needs)
+    (λ c. search needs)
+    (λ c. search needs)
+    (λ c. search needs)
+    (λ c κs. search needs)
+    (λ c. search needs)
+    (λ c. search needs)
+    (λ c κs. search needs)
+    returns-2
     read-body-requires
-    same-length
-    same-length-2
-    returns-2)
+    (λ c. search needs)
+    (λ c. search needs)
+    returns-3)
