@@ -18,14 +18,18 @@ use Rattle.bits.specs.Codecs.{writeAll, words, raw, FitAll}
 use Rattle.words.specs.Tables.{coding}
 use Rattle.words.specs.Spell.{word-fixed}
 use Rattle.prefix.specs.Sizes.{modeBytes, mode-bounds}
-use Rattle.prefix.specs.Prefix.{byteWith}
+use Rattle.prefix.specs.Prefix.{byteWith, byteOf, byte-mode}
+use Rattle.prefix.specs.declared.Byte.{Byte}
+use Rattle.prefix.specs.declared.Byte.the-variants as Byte
 use Rattle.norms.specs.Part.{normBits, Writable, write-is, ok-writable, norm-bits}
-use Rattle.norms.specs.Answers.{writable-reply}
+use Rattle.norms.specs.Answers.{normReply, writable-reply}
 use Rattle.frame.specs.Layout.{spare, budgetOf, codeBits, tailLeft, codesPart, frame, frame-bits}
 use Rattle.frame.specs.Reads.{spare-le}
 use Rattle.frame.specs.declared.Record.{Record}
-use Rattle.writer.specs.Tests.{quietOf, fits, clear, fits-all}
-use Rattle.writer.specs.Writes.{flagBits, total, frameOf, bytesFor, kindsFor, budgetFor, earlyReply, lateReply, writeReply, firstOf, Roomy, early-rooms, outAfter, writingOf, late-wide, late-past, late-count, late-pad}
+use Rattle.writer.specs.Tests.{quietOf, clear, fits-all, all-fits}
+use Rattle.writer.specs.Parts.{flagBits, total, kindsFor, budgetFor, codesLong, firstOf, layoutOf, Laid, laid-out, laid-told}
+use Rattle.writer.specs.Writes.{frameOf, bytesFor, roomReply, lateReply, writeReply, reply-late, Roomy, rooms-enough, rooms-told, late-told, late-pad, outAfter, writingOf}
+use Rattle.writer.specs.declared.Parts.{Parts}
 
 -- flags, norms, codes, noise, tail
 unfoldable pub bodyBits : Record → List ℕ → List ℕ → List Bool
@@ -122,38 +126,48 @@ module _ (r : Record) (vs ts s₀ s₁ s₂ s₃ s₄ s₅ : List ℕ) (f n m k 
 
 pub record Passed (r : Record) (cs ts : List ℕ) (room : ℕ) : Type 0 where
   pub rooms : Roomy r (length cs) (length ts) room
+  pub norms : normReply (r .transient) (r .norms) ≡ done
   pub fit : FitAll (map coding (kindsFor r)) (take 800 cs)
-  pub paid : length (writeAll (map coding (kindsFor r)) (take 800 cs)) ≤ budgetFor r
-  pub count : r .«tail_bits» ≡ budgetFor r - length (writeAll (map coding (kindsFor r)) (take 800 cs))
+  pub paid : codesLong (kindsFor r) (take 800 cs) ≤ budgetFor r
+  pub count : r .«tail_bits» ≡ budgetFor r - codesLong (kindsFor r) (take 800 cs)
   pub pad : clear (view ts (r .«tail_bits») (2560 - r .«tail_bits»)) ≡ true
 
 first-zero : (x y : ℕ) → firstOf x y ≡ 0 → (x ≡ 0) × (y ≡ 0)
 first-zero x y e =
     by-bool (eqb x 0) (λ t. let z : x ≡ 0 = eqb-true x 0 t in (z, rw t at e)) (λ t. absurd (borrow.Author.Tests.eqb-false x 0 t (rw t at e)))
 
+left : Parts → ℕ
+left p = p .«tail_bits»
+
 pub passed : (r : Record) (cs ts : List ℕ) (room : ℕ) → writeReply r cs ts room ≡ 0 → Passed r cs ts room
-unfolding writeReply
+unfolding writeReply left
 passed r cs ts room e =
-    let ks = kindsFor r in
-    let vs = take 800 cs in
-    let b = budgetFor r in
-    let t = r .«tail_bits» in
-    let n = length (writeAll (map coding ks) vs) in
-    let q = first-zero (earlyReply r (length cs) (length ts) room) (lateReply ks vs ts b t) e in
-    let R = early-rooms r (length cs) (length ts) room (q .0) in
-    by-bool (fits (map coding ks) vs)
-    (λ f.
-    by-bool (ltb b n) (λ p. absurd (let z = late-past ks vs ts b t f n refl (ltb-true b n p) in omega (arith, q .1)))
-    (λ p.
-    let l = ltb-false b n p in
-    by-bool (eqb t (b - n))
-    (λ c.
-    let k = eqb-true t (b - n) c in
-    by-bool (clear (view ts t (2560 - t)))
-    (λ g. record { rooms = R; fit = fits-all (map coding ks) vs f; paid = l; count = k; pad = g })
-    (λ g. absurd (let z = late-pad ks vs ts b t f n refl l false k g in omega (arith, q .1))))
-    (λ c. absurd (let z = late-count ks vs ts b t f n refl l (borrow.Author.Tests.eqb-false t (b - n) c) in omega (arith, q .1)))))
-    (λ f. absurd (let z = late-wide ks vs ts b t f in omega (arith, q .1)))
+    let q = first-zero (roomReply r (length cs) (length ts) room) (lateReply (layoutOf r cs) ts (r .«tail_bits»)) e in
+    let t = late-told (layoutOf r cs) ts (r .«tail_bits») (q .1) in
+    let L = laid-told r cs (t .0) in
+    record {
+      rooms = rooms-told r (length cs) (length ts) room (q .0);
+      norms = L .start .norms;
+      fit = fits-all (map coding (kindsFor r)) (take 800 cs) (L .fit);
+      paid = L .paid;
+      count = t .1 ∙ ap left (laid-out r cs L);
+      pad = t .2;
+    }
+
+-- and every record that obeys these rules is written
+pub writes : (r : Record) (cs ts : List ℕ) (room : ℕ) → Passed r cs ts room → writeReply r cs ts room ≡ 0
+unfolding left
+writes r cs ts room P =
+    let R = P .rooms in
+    let L : Laid r cs =
+    record {
+      start = record { mode = R .mode; codes = R .codes; norms = P .norms };
+      fit = all-fits _ (take 800 cs) (P .fit);
+      paid = P .paid;
+    } in
+    let l = laid-out r cs L in
+    sym (reply-late r cs ts room _ _ refl (rooms-enough r (length cs) (length ts) room R)
+    (late-pad (layoutOf r cs) ts (r .«tail_bits») (ap (λ (p : Parts). p .reply) l) true (P .count ∙ sym (ap left l)) (P .pad)))
 
 -- ---- a record that passes means a frame of its mode's length
 
@@ -164,7 +178,7 @@ quiet-fit false z e = omega (arith, ltb-true z 4 e)
 
 module _ (r : Record) (cs ts : List ℕ) (room : ℕ) (l : length (r .norms) ≡ 44) (P : Passed r cs ts room) where
   writable : Writable (r .transient) (r .norms)
-  writable = writable-reply (r .transient) (r .norms) l (P .rooms .norms)
+  writable = writable-reply (r .transient) (r .norms) l (P .norms)
 
   pub meant : frame (total r) .Ok (frameOf r cs ts)
   unfolding frame codesPart words raw tailLeft codeBits
@@ -189,42 +203,40 @@ module _ (r : Record) (cs ts : List ℕ) (room : ℕ) (l : length (r .norms) ≡
       )
 
   -- the output holds the frame's bytes
-  pub out-made : (out : List ℕ) → Bytes out → modeBytes (r .mode) < length out
-      → laid (set out 0 ((r .mode + 8) * 4)) 8 (bodyBits r (take 800 cs) ts) ≡ bytesFor r cs ts ++ drop (modeBytes (r .mode) + 1) out
+  pub out-made : (out : List ℕ) (y : ℕ) → Bytes out → modeBytes (r .mode) < length out → y ≡ byteWith 0 (r .mode + 8) 0
+      → laid (set out 0 y) 8 (bodyBits r (take 800 cs) ts) ≡ bytesFor r cs ts ++ drop (modeBytes (r .mode) + 1) out
   unfolding bytesFor
-  out-made [] b h = absurd (omega arith)
-  out-made (x ∷ out) b h =
+  out-made [] y b h e = absurd (omega arith)
+  out-made (x ∷ out) y b h e =
       let n = modeBytes (r .mode) in
       let w = frame (total r) .write (frameOf r cs ts) in
-      let p : (r .mode + 8) * 4 ≡ byteWith 0 (r .mode + 8) 0 = omega arith in
       let q : drop (n + 1) (x ∷ out) ≡ drop n out = ap (λ (k : ℕ). drop k (x ∷ out)) (native.Mathlib.Numerals.add-one n) in
-      ap (laid ((r .mode + 8) * 4 ∷ out) 8) (sym (body-is r cs ts))
-      ∙ laid-behind ((r .mode + 8) * 4) out n w (omega (arith, P .rooms .mode)) (λ i. b (Prim.Native.Nat.suc i)) meant-long (omega arith)
-      ∙ ap₂ (λ (y : ℕ) (t : List ℕ). y ∷ (bytesOf n w ++ t)) p (sym q)
+      ap (laid (y ∷ out) 8) (sym (body-is r cs ts))
+      ∙ laid-behind y out n w (omega (arith, P .rooms .mode)) (λ i. b (Prim.Native.Nat.suc i)) meant-long (omega arith)
+      ∙ ap₂ (λ (y : ℕ) (t : List ℕ). y ∷ (bytesOf n w ++ t)) e (sym q)
 
 -- ---- the answers
 
 pub refused-out : (x : ℕ) (r : Record) (cs ts out : List ℕ) → (x ≡ 0 → ⊥) → (record { reply = x; next = 0 } ≡ writingOf x (r .mode)) × (out ≡ outAfter x r cs ts out)
 refused-out x r cs ts out n = (rw (ne-eqb x 0 n), rw (ne-eqb x 0 n))
 
--- what is needed of a record that passes, by its reply
-module _ (r : Record) (cs ts out : List ℕ) (x : ℕ) (ex : x ≡ writeReply r cs ts (length out)) (z : x ≡ 0) (l : length (r .norms) ≡ 44) where
-  P : Passed r cs ts (length out)
-  P = passed r cs ts (length out) (sym ex ∙ z)
+-- what is needed of a record that passes
+module _ (r : Record) (cs ts out : List ℕ) (P : Passed r cs ts (length out)) where
+  -- a mode of 0 to 19 has a prefix byte
+  pub pass-prefix : byteOf (r .mode) ≡ Byte.OutOfRange → ⊥
+  pass-prefix e = let w = sym e ∙ byte-mode (r .mode) (omega (arith, P .rooms .mode)) in let z : _≡_ {A = ℕ} 0 1 = cc in omega arith
 
-  pub pass-mode : r .mode ≤ 19
-  pass-mode = P .rooms .mode
+  pass-byte : (y : ℕ) → byteOf (r .mode) ≡ Byte.Is y → y ≡ byteWith 0 (r .mode + 8) 0
+  pass-byte y e = ap number (sym e ∙ byte-mode (r .mode) (omega (arith, P .rooms .mode)))
+    where
+      number : Byte → ℕ
+      number (Byte.Is b) = b
+      number Byte.OutOfRange = 0
 
-  pub pass-codes : 800 ≤ length cs
-  pass-codes = P .rooms .codes
-
-  pub pass-room : modeBytes (r .mode) < length out
-  pass-room = P .rooms .out
-
-  pub pass-out : (n : ℕ) (b : Bytes out) (t : List ℕ) → n ≡ modeBytes (r .mode) → t ≡ laid (set out 0 ((r .mode + 8) * 4)) 8 (bodyBits r (take 800 cs) ts)
+  pub pass-out : length (r .norms) ≡ 44 → (n y : ℕ) (b : Bytes out) (t : List ℕ) → n ≡ modeBytes (r .mode) → byteOf (r .mode) ≡ Byte.Is y → t ≡ laid (set out 0 y) 8 (bodyBits r (take 800 cs) ts)
       → (record { reply = done; next = n + 1 } ≡ writingOf (writeReply r cs ts (length out)) (r .mode)) × (t ≡ outAfter (writeReply r cs ts (length out)) r cs ts out)
-  pass-out n b t en et =
-      let q : writeReply r cs ts (length out) ≡ 0 = sym ex ∙ z in (
+  pass-out l n y b t en ey et =
+      let q : writeReply r cs ts (length out) ≡ 0 = writes r cs ts (length out) P in (
         rw (eq-eqb (writeReply r cs ts (length out)) 0 q) (ap (λ (k : ℕ). record { reply = done; next = k + 1 }) en),
-        rw (eq-eqb (writeReply r cs ts (length out)) 0 q) (et ∙ out-made r cs ts (length out) l P out b (P .rooms .out)),
+        rw (eq-eqb (writeReply r cs ts (length out)) 0 q) (et ∙ out-made r cs ts (length out) l P out y b (P .rooms .out) (pass-byte y ey)),
       )

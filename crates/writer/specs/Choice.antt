@@ -23,7 +23,7 @@ use Rattle.frame.specs.Kinds.{bandOf, kindOf, kinds, kind-first, kind-none, kin
 use Rattle.frame.specs.Layout.{wideIn, kindsAt, kindsOf}
 use Rattle.frame.specs.declared.Record.{Record}
 use Rattle.writer.specs.Tests.{fits}
-use Rattle.writer.specs.Writes.{total, budgetFor, kindsFor, firstOf}
+use Rattle.writer.specs.Parts.{total, budgetFor, kindsFor, firstOf, startReply}
 
 -- ---- definitions
 
@@ -62,14 +62,7 @@ wordsCost r cs = sumTo (λ i. asWord (rateAt r i) (getD cs i 0)) 800
 unfoldable pub fixedCost : Record → ℕ
 fixedCost r = sumTo (λ i. asFixed (rateAt r i)) 800
 
--- 8 for the mode, 10 for under 800 numbers, and what the norms say: 8 or 9
-unfoldable pub startReply : Record → ℕ → ℕ
-startReply r codes =
-    cond (ltb 19 (r .mode)) outOfRange
-    (cond (ltb codes 800) shortRoom
-    (normReply (r .transient) (r .norms)))
-
--- then 12
+-- as the layout starts: 8 for the mode, 10 for under 800 numbers, 8 or 9 for the norms; then 12
 unfoldable pub choiceReply : Record → List ℕ → ℕ
 choiceReply r cs = firstOf (startReply r (length cs)) (cond (fits (map coding (kindsFor (plain r))) (take 800 cs)) done wideCode)
 
@@ -78,29 +71,6 @@ choiceOf r cs =
     cond (eqb (choiceReply r cs) 0)
     (record { reply = done; flag = ltb (wordsCost r cs) (fixedCost r) })
     (record { reply = choiceReply r cs; flag = false })
-
--- ---- the reply, by the tests
-
-module _ (r : Record) (c : ℕ) where
-  pub start-mode : 19 < r .mode → outOfRange ≡ startReply r c
-  unfolding startReply
-  start-mode h = rw (lt-ltb 19 (r .mode) h)
-
-  module _ (m : r .mode ≤ 19) where
-    pub start-short : c < 800 → shortRoom ≡ startReply r c
-    unfolding startReply
-    start-short h = rw (le-ltb 19 (r .mode) m, lt-ltb c 800 h)
-
-    pub start-norms : 800 ≤ c → normReply (r .transient) (r .norms) ≡ startReply r c
-    unfolding startReply
-    start-norms h = rw (le-ltb 19 (r .mode) m, le-ltb c 800 h)
-
--- a start of 0 had 800 numbers
-pub start-room : (r : Record) (c : ℕ) → startReply r c ≡ 0 → 800 ≤ c
-unfolding startReply
-start-room r c e =
-    by-bool (ltb 19 (r .mode)) (λ a. absurd (let z : _≡_ {A = ℕ} 8 0 = sym (rw a) ∙ e in omega arith))
-    (λ a. by-bool (ltb c 800) (λ b. absurd (let z : _≡_ {A = ℕ} 10 0 = sym (rw (a, b)) ∙ e in omega arith)) (λ b. borrow.Author.Tests.ltb-false c 800 b))
 
 -- ---- the answer
 

@@ -1,4 +1,5 @@
 pub mod Tests
+pub mod Parts
 pub mod Empty
 pub mod Writes
 pub mod Choice

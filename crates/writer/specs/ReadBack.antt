@@ -21,7 +21,8 @@ use Rattle.frame.specs.Layout.{frame, budgetOf}
 use Rattle.frame.specs.Answers.{sound, outcome, readBody, started, readAnswer, readingOf, codesAfter, tailBytes, tailAfter}
 use Rattle.frame.specs.declared.Record.{Record}
 use Rattle.writer.specs.Tests.{clear}
-use Rattle.writer.specs.Writes.{total, frameOf, bytesFor}
+use Rattle.writer.specs.Parts.{total}
+use Rattle.writer.specs.Writes.{frameOf, bytesFor}
 use Rattle.writer.specs.Bodies.{Passed, meant, meant-long}
 
 -- clear bits are a run of 0

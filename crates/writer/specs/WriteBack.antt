@@ -31,7 +31,9 @@ use Rattle.frame.specs.Reads.{spare-le, read-codes-short, read-tail-short, read
 use Rattle.frame.specs.Answers.{sound, outcome, readBody, bodyOf, started, readAnswer, recordOf, codesAfter, tailBytes, tailAfter}
 use Rattle.frame.specs.declared.Record.{Record}
 use Rattle.writer.specs.Tests.{clear, quietOf, all-fits}
-use Rattle.writer.specs.Writes.{frameOf, bytesFor, budgetFor, kindsFor, earlyReply, lateReply, writeReply, early-norms, late-pad, reply-late}
+use Rattle.writer.specs.Parts.{budgetFor, kindsFor, codesLong}
+use Rattle.writer.specs.Writes.{frameOf, bytesFor, writeReply}
+use Rattle.writer.specs.Bodies.{Passed, writes}
 
 -- ---- what a sound answer tells
 
@@ -216,23 +218,27 @@ module _ (mode : ℕ) (a b c d : Bool) (ns vs : List ℕ) (z : ℕ) (tb : List B
   few = omega (arith, ok-tail, mode-bounds mode (S .low) .1)
 
   module _ (hc : 800 ≤ length codes) (ht : 320 ≤ length tail) where
-    early : earlyReply r (length cs) (length ts) room ≡ 0
-    unfolding r cs ts
-    early =
-        let lc : 800 ≤ length cs = omega (arith, length-append vs (drop 800 codes), many) in
-        let lt : 320 ≤ length ts = omega (arith, length-tail tb (drop 320 tail) few) in
-        sym (early-norms r (length cs) (length ts) room (omega (arith, S .low)) lc lt (modeBytes mode) refl h (fit-quiet a z ok-noise))
-        ∙ reply-writable a ns (ok-norms .long) ok-norms
-
-    late : lateReply (kindsFor r) (take 800 cs) ts (budgetFor r) (r .«tail_bits») ≡ 0
-    unfolding r ts f t tailLeft codeBits
-    late =
-        let ks = kindsFor r in
-        ap (λ (l : List ℕ). lateReply ks l ts (budgetFor r) (length tb)) codes-front
-        ∙ sym (late-pad ks vs ts (budgetFor r) (length tb) (all-fits (map coding ks) vs ok-codes) (length (writeAll (map coding ks) vs)) refl paid true ok-tail (tail-clear tb (drop 320 tail) few))
+    obeys : Passed r cs ts room
+    unfolding r cs ts f t tailLeft codeBits
+    obeys =
+        record {
+          rooms =
+              record {
+                mode = omega (arith, S .low);
+                codes = omega (arith, length-append vs (drop 800 codes), many);
+                tail = omega (arith, length-tail tb (drop 320 tail) few);
+                out = h;
+                quiet = fit-quiet a z ok-noise;
+              };
+          norms = reply-writable a ns (ok-norms .long) ok-norms;
+          fit = subst (λ (l : List ℕ). FitAll (map coding (kindsFor r)) l) (sym codes-front) ok-codes;
+          paid = subst (λ (l : List ℕ). codesLong (kindsFor r) l ≤ budgetFor r) (sym codes-front) paid;
+          count = ok-tail ∙ ap (λ (l : List ℕ). budgetFor r - codesLong (kindsFor r) l) (sym codes-front);
+          pad = tail-clear tb (drop 320 tail) few;
+        }
 
     accepted : writeReply r cs ts room ≡ 0
-    accepted = sym (reply-late r cs ts room (earlyReply r (length cs) (length ts) room) (lateReply (kindsFor r) (take 800 cs) ts (budgetFor r) (r .«tail_bits»)) refl early refl) ∙ late
+    accepted = writes r cs ts room obeys
 
   same-frame : frameOf r cs ts ≡ x
   unfolding r ts x

@@ -4,11 +4,9 @@ ghost use mathlib.Core.Bool.{false};
 ghost use Prim.Native.Nat.{_≤_};
 ghost use lib.ListN.{length};
 ghost use Rattle.words.specs.Spell.{spellTable};
-ghost use Rattle.writer.specs.Choice.{asWord, asFixed, cheaper, plain, startReply, choiceOf};
+ghost use Rattle.writer.specs.Choice.{asWord, asFixed, cheaper, plain, choiceOf};
 use frame::Record;
 use ground::replies::DONE;
-use ground::replies::OUT_OF_RANGE;
-use ground::replies::SHORT_ROOM;
 use ground::replies::WIDE_CODE;
 use norms::Choice;
 
@@ -16,20 +14,6 @@ fn no_choice(reply: u8) -> Choice
     ensures { λ c. ⌜ c ≡ record { reply = reply; flag = false } ⌝ }
 {
     Choice { reply, flag: false }
-}
-
-// 8 for the mode, 10 for under 800 numbers, and what the norms say: 8, 9 or 0.
-fn start_reply(r: Record, codes: usize) -> u8
-    ensures { λ x. ⌜ x ≡ startReply r codes ⌝ }
-{
-    if 19 < r.mode {
-        return OUT_OF_RANGE;
-    }
-    if codes < 800 {
-        return SHORT_ROOM;
-    }
-    let norms = r.norms;
-    norms::norm_reply(r.transient, norms)
 }
 
 // What a number costs as a word of Table 20 where the kind is 2 to 5, and nothing elsewhere.
@@ -97,7 +81,7 @@ fn plain(r: Record) -> Record
 pub fn choose_flag_c(r: Record, codes: &[u16]) -> Choice
     ensures { λ c. ⌜ c ≡ choiceOf r (now (codes .entry)) ⌝ }
 {
-    let start = start_reply(r, codes.len());
+    let start = crate::start_reply(r, codes.len());
     if start != DONE {
         return no_choice(start);
     }

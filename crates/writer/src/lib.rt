@@ -7,7 +7,8 @@ ghost use Rattle.bits.specs.Bits.{view, laid, word, num};
 ghost use Rattle.words.specs.Tables.{coding};
 ghost use Rattle.writer.specs.Tests.{quietOf, fits, clear};
 ghost use Rattle.writer.specs.Empty.{emptyReply, emptyAfter};
-ghost use Rattle.writer.specs.Writes.{flagBits, earlyReply, lateReply, writeReply, kindsFor, planOf, writingOf, outAfter};
+ghost use Rattle.writer.specs.Parts.{flagBits, kindsFor, planOf, startReply, noParts, partsIn, layoutOf, SpreadOf};
+ghost use Rattle.writer.specs.Writes.{roomReply, lateReply, writeReply, writingOf, outAfter};
 ghost use Rattle.writer.specs.Bodies.{bodyBits};
 ghost use Rattle.frame.specs.Answers.{flagsOf};
 use frame::Flags;
@@ -19,6 +20,7 @@ use ground::replies::PAST_BUDGET;
 use ground::replies::SHORT_ROOM;
 use ground::replies::WIDE_CODE;
 use ground::replies::WRONG_TAIL;
+use prefix::Byte;
 use prefix::Mode;
 
 pub mod choice;
@@ -30,9 +32,26 @@ pub struct Writing {
     pub next: usize,
 }
 
-// What a record's flags and norms say of its frame: the budget, and the kinds of the 800 places.
+// What a record's flags and norms say of its frame: the budget, the rates of the 44 bands, and the kinds of the 800 places.
 pub struct Plan {
     pub budget: usize,
+    pub rates: [u8; 44],
+    pub kinds: [u8; 800],
+}
+
+// How a frame's bits part, behind flags and norms: the budget, the rates by which it is shared, the bits of the codes, and those left for the tail.
+#[repr(C)]
+pub struct Parts {
+    pub reply: u8,
+    pub budget: u16,
+    pub rates: [u8; 44],
+    pub code_bits: u16,
+    pub tail_bits: u16,
+}
+
+// The parts of a frame, and the kinds of its 800 places.
+pub struct Spread {
+    pub parts: Parts,
     pub kinds: [u8; 800],
 }
 
@@ -126,9 +145,9 @@ fn wide(x: u16) -> usize
     x as usize
 }
 
-// 8 for the mode, 10 for the three rooms, 8 for the noise, and what the norms say: 8, 9 or 0.
-fn early_reply(r: Record, codes: usize, tail: usize, room: usize) -> u8
-    ensures { λ x. ⌜ x ≡ earlyReply r codes tail room ⌝ }
+// 8 for the mode, 10 for the three rooms, 8 for the noise, else 0.
+fn room_reply(r: Record, codes: usize, tail: usize, room: usize) -> u8
+    ensures { λ x. ⌜ x ≡ roomReply r codes tail room ⌝ }
 {
     if 19 < r.mode {
         return OUT_OF_RANGE;
@@ -144,6 +163,20 @@ fn early_reply(r: Record, codes: usize, tail: usize, room: usize) -> u8
     }
     if !is_quiet(r.transient, r.noise) {
         return OUT_OF_RANGE;
+    }
+    DONE
+}
+
+// 8 for the mode, 10 for under 800 numbers, and what the norms say: 8, 9 or 0.
+fn start_reply(r: Record, codes: usize) -> u8
+    ensures { λ x. ⌜ x ≡ startReply r codes ⌝ }
+{
+    let mode = r.mode;
+    if 19 < mode {
+        return OUT_OF_RANGE;
+    }
+    if codes < 800 {
+        return SHORT_ROOM;
     }
     let norms = r.norms;
     norms::norm_reply(r.transient, norms)
@@ -167,26 +200,86 @@ fn plan_of(r: Record) -> Plan
     let end = wide(Mode(r.mode).bytes()) * 8;
     let at = 4 + norms::norm_bits(r.transient, r.flag_n, norms);
     let budget = minus(minus(end, at), frame::spare_of(r.transient));
-    let kinds = frame::kinds_for(flags_of(r), norms, at, end);
-    Plan { budget, kinds }
+    let rates = frame::rates_for(flags_of(r), norms, budget as u32, end);
+    let kinds = frame::all_kinds(r.flag_c, rates);
+    Plan {
+        budget,
+        rates,
+        kinds,
+    }
 }
 
-// 12 for a code without a word, 7 for codes past the budget, 13 for the tail, else 0.
-fn late_reply(kinds: &[u8], numbers: &[u16], tail: &[u8], budget: usize, count: usize) -> u8
-    requires { ⌜ (length (now kinds) ≡ length (now numbers)) × (length (now kinds) ≤ 800) ⌝ }
-    ensures { λ r. ⌜ r ≡ lateReply (now (kinds .entry)) (now (numbers .entry)) (now (tail .entry)) budget count ⌝ }
+fn no_parts(reply: u8) -> Parts
+    ensures { λ p. ⌜ p ≡ noParts reply ⌝ }
+{
+    Parts {
+        reply,
+        budget: 0,
+        rates: [0u8; 44],
+        code_bits: 0,
+        tail_bits: 0,
+    }
+}
+
+// 12 for a code without a word, 7 for codes past the budget, else the parts.
+fn parts_in(budget: usize, rates: [u8; 44], kinds: &[u8], numbers: &[u16]) -> Parts
+    requires { ⌜ (length (now kinds) ≡ length (now numbers)) × (length (now kinds) ≤ 800) × (budget ≤ 2560) ⌝ }
+    ensures { λ p. ⌜ p ≡ partsIn budget rates (now (kinds .entry)) (now (numbers .entry)) ⌝ }
 {
     if !all_fit(kinds, numbers) {
-        return WIDE_CODE;
+        return no_parts(WIDE_CODE);
     }
     let n = words::runs::run_bits(kinds, numbers);
     if budget < n {
-        return PAST_BUDGET;
+        return no_parts(PAST_BUDGET);
     }
-    if count != budget - n {
+    Parts {
+        reply: DONE,
+        budget: budget as u16,
+        rates,
+        code_bits: n as u16,
+        tail_bits: (budget - n) as u16,
+    }
+}
+
+// The layout of a record; where it is refused, the kinds are of no use.
+fn spread_of(r: Record, codes: &[u16]) -> Spread
+    ensures { λ s. ⌜ SpreadOf r (now (codes .entry)) s ⌝ }
+{
+    let start = start_reply(r, codes.len());
+    if start != DONE {
+        return Spread {
+            parts: no_parts(start),
+            kinds: [0u8; 800],
+        };
+    }
+    let plan = plan_of(r);
+    let rates = plan.rates;
+    let kinds = plan.kinds;
+    let parts = parts_in(plan.budget, rates, &kinds, &codes[..800]);
+    Spread { parts, kinds }
+}
+
+// How a record's bits part: as the FlagC choice 8 for the mode, 10, the other causes of 8, 9, 12; then 7. Noise and tail are not looked at.
+pub fn layout(r: Record, codes: &[u16]) -> Parts
+    ensures { λ p. ⌜ p ≡ layoutOf r (now (codes .entry)) ⌝ }
+{
+    let spread = spread_of(r, codes);
+    spread.parts
+}
+
+// What the layout says, then 13 for the tail, else 0.
+fn late_reply(parts: Parts, tail: &[u8], count: u16) -> u8
+    ensures { λ r. ⌜ r ≡ lateReply parts (now (tail .entry)) count ⌝ }
+{
+    let reply = parts.reply;
+    if reply != DONE {
+        return reply;
+    }
+    if count != parts.tail_bits {
         return WRONG_TAIL;
     }
-    if all_clear(tail, count, 2560) {
+    if all_clear(tail, wide(count), 2560) {
         return DONE;
     }
     WRONG_TAIL
@@ -230,20 +323,24 @@ pub fn write(r: Record, codes: &[u16], tail: &[u8], out: &mut [u8]) -> Writing
     ensures { λ w. ⌜ (w ≡ writingOf (writeReply r (now (codes .entry)) (now (tail .entry)) (length (now (out .entry)))) (r .mode))
         × (now (out .exit) ≡ outAfter (writeReply r (now (codes .entry)) (now (tail .entry)) (length (now (out .entry)))) r (now (codes .entry)) (now (tail .entry)) (now (out .entry))) ⌝ }
 {
-    let early = early_reply(r, codes.len(), tail.len(), out.len());
+    let early = room_reply(r, codes.len(), tail.len(), out.len());
     if early != DONE {
         return refusal(early);
     }
-    let plan = plan_of(r);
-    let kinds = plan.kinds;
-    let numbers = &codes[..800];
-    let late = late_reply(&kinds, numbers, tail, plan.budget, wide(r.tail_bits));
+    let spread = spread_of(r, codes);
+    let parts = spread.parts;
+    let late = late_reply(parts, tail, r.tail_bits);
     if late != DONE {
         return refusal(late);
     }
+    let byte = prefix::write_prefix(Mode(r.mode));
+    let Byte::Is(first) = byte else {
+        return refusal(OUT_OF_RANGE);
+    };
     let n = wide(Mode(r.mode).bytes());
-    out[0] = (r.mode + 8) * 4;
-    write_body(r, &kinds, numbers, tail, out);
+    let kinds = spread.kinds;
+    out[0] = first;
+    write_body(r, &kinds, &codes[..800], tail, out);
     Writing {
         reply: DONE,
         next: n + 1,

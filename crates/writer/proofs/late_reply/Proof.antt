@@ -1,47 +1,34 @@
--- `writer::late_reply` meets its contract, in 01's order. Assumes nothing.
-use mathlib.Core.Path.{sym, _∙_}
-use Prim.Native.Nat.{_-_}
+-- `writer::late_reply` meets its contract: the layout's reply, then the tail's count and padding. Assumes nothing.
+use mathlib.Core.Path.{_≡_, sym, ap, _∙_}
+use mathlib.Core.Bool.{Bool, true, false, cond}
+use Prim.Native.Nat.{ℕ, _-_}
 use denote.Ref.{now}
-use mathlib.Core.Bool.{true, false}
-use borrow.Author.Tests.{not-true, not-false}
-use Rattle.writer.specs.Writes.{late-wide, late-past, late-count, late-pad}
+use Rattle.ground.specs.Replies.{done, wrongTail}
+use Rattle.bits.specs.Bits.{view}
+use Rattle.writer.specs.Tests.{clear}
+use Rattle.writer.specs.Writes.{lateReply, late-refused, late-count, late-pad}
 use borrow.Author.Needs.{needs}
 use Rattle.writer.proofs.late_reply.Statement.{statement}
 use Rattle.writer.proofs.late_reply.Tie as tie
 
-all-fit-requires : tie.Need-all-fit-requires
-all-fit-requires c κs = search needs
+-- whether the padding is clear
+padding : (d : tie.After-all-clear) → let a : tie.Start = search in clear (view (now (a .args .tail)) (a .args .count) (2560 - a .args .count)) ≡ d .all-clear .result
+padding d =
+    let w : tie.After-wide = search in
+    let a : tie.Start = search in
+    ap (λ (k : ℕ). clear (view (now (a .args .tail)) k (2560 - k))) (sym (w .wide .ensures .0)) ∙ sym (d .all-clear .ensures)
 
-returns : tie.Need-returns
-returns c = late-wide (now (c .before .before .before .before .before .args .kinds)) (now (c .before .before .before .before .before .args .numbers)) (now (c .before .before .before .before .before .args .tail)) (c .before .before .before .before .before .args .budget) (c .before .before .before .before .before .args .count) (sym (c .before .all-fit .ensures) ∙ not-true _ (c .if1 .taken))
-
-run-bits-requires : tie.Need-run-bits-requires
-run-bits-requires c κs = search needs
-
-returns-2 : tie.Need-returns-2
-returns-2 c = late-past (now (c .before .before .before .before .before .before .before .args .kinds)) (now (c .before .before .before .before .before .before .before .args .numbers)) (now (c .before .before .before .before .before .before .before .args .tail)) (c .before .before .before .before .before .before .before .args .budget) (c .before .before .before .before .before .before .before .args .count) (sym (c .before .before .before .all-fit .ensures) ∙ not-false _ (c .before .before .if1 .left)) _ (c .before .run-bits .ensures) (c .if2 .taken)
-
-returns-3 : tie.Need-returns-3
-returns-3 c = late-count (now (c .before .before .before .before .before .before .before .before .args .kinds)) (now (c .before .before .before .before .before .before .before .before .args .numbers)) (now (c .before .before .before .before .before .before .before .before .args .tail)) (c .before .before .before .before .before .before .before .before .args .budget) (c .before .before .before .before .before .before .before .before .args .count) (sym (c .before .before .before .before .all-fit .ensures) ∙ not-false _ (c .before .before .before .if1 .left)) _ (c .before .before .run-bits .ensures) (c .before .if2 .left) (c .if3 .taken)
-
-all-clear-requires : tie.Need-all-clear-requires
-all-clear-requires c κs = search needs
-
-returns-4 : tie.Need-returns-4
-returns-4 c = late-pad (now (c .before .before .before .before .before .before .before .before .before .before .args .kinds)) (now (c .before .before .before .before .before .before .before .before .before .before .args .numbers)) (now (c .before .before .before .before .before .before .before .before .before .before .args .tail)) (c .before .before .before .before .before .before .before .before .before .before .args .budget) (c .before .before .before .before .before .before .before .before .before .before .args .count) (sym (c .before .before .before .before .before .before .all-fit .ensures) ∙ not-false _ (c .before .before .before .before .before .if1 .left)) _ (c .before .before .before .before .run-bits .ensures) (c .before .before .before .if2 .left) true (c .before .before .if3 .left) (sym (c .before .all-clear .ensures) ∙ c .if4 .taken)
-
-returns-5 : tie.Need-returns-5
-returns-5 c = late-pad (now (c .before .before .before .before .before .before .before .before .before .before .args .kinds)) (now (c .before .before .before .before .before .before .before .before .before .before .args .numbers)) (now (c .before .before .before .before .before .before .before .before .before .before .args .tail)) (c .before .before .before .before .before .before .before .before .before .before .args .budget) (c .before .before .before .before .before .before .before .before .before .before .args .count) (sym (c .before .before .before .before .before .before .all-fit .ensures) ∙ not-false _ (c .before .before .before .before .before .if1 .left)) _ (c .before .before .before .before .run-bits .ensures) (c .before .before .before .if2 .left) false (c .before .before .if3 .left) (sym (c .before .all-clear .ensures) ∙ c .if4 .left)
+-- the count is right
+padded : (b : Bool) (d : tie.After-all-clear) → d .all-clear .result ≡ b → let a : tie.Start = search in cond b done wrongTail ≡ lateReply (a .args .parts) (now (a .args .tail)) (a .args .count)
+padded b d e = let a : tie.Start = search in late-pad (a .args .parts) (now (a .args .tail)) (a .args .count) (search) b (search) (padding d ∙ e)
 
 pub late-reply-spec : {M : Type 1} → statement M
 late-reply-spec =
     tie.close
     (tie.spec
-    all-fit-requires
-    returns
-    run-bits-requires
-    returns-2
-    returns-3
-    all-clear-requires
-    returns-4
-    returns-5)
+    (λ c. search late-refused)
+    (λ c. search late-count)
+    (λ c κs. search needs)
+    (λ c κs. search needs)
+    (λ c. padded true (search) (search))
+    (λ c. padded false (search) (search)))

@@ -6,19 +6,19 @@ use denote.Ref.{now}
 use lib.ListN.{length}
 use lib.Seq.{length-take-le}
 use borrow.Author.Tests.{not-true, not-false}
-use Rattle.writer.specs.Writes.{kindsFor, planOf, plan-kinds}
-use Rattle.writer.specs.Choice.{plain, start-room, choice-start, choice-wide, choice-made, cheaper-is}
+use Rattle.writer.specs.Parts.{kindsFor, planOf, started, planned as planned-of}
+use Rattle.writer.specs.Choice.{plain, choice-start, choice-wide, choice-made, cheaper-is}
 use borrow.Author.Needs.{needs}
 use Rattle.writer.proofs.choice.choose_flag_c.Statement.{statement}
 use Rattle.writer.proofs.choice.choose_flag_c.Tie as tie
 
 -- a start of 0 had 800 numbers
 many : (d : tie.Else1) → 800 ≤ length (now (d .before .before .before .args .codes))
-many d = start-room (d .before .before .before .args .r) (length (now (d .before .before .before .args .codes))) (sym (d .before .start-reply .ensures) ∙ d .if1 .left)
+many d = started (d .before .before .before .args .r) (length (now (d .before .before .before .args .codes))) (sym (d .before .start-reply .ensures) ∙ d .if1 .left) .codes
 
 -- the kinds of the record with FlagC 0
 planned : (d : tie.After-plan-of) → (d .plan-of .result .kinds ≡ kindsFor (plain (d .before .before .before .before .before .args .r))) × (length (d .plan-of .result .kinds) ≡ 800)
-planned d = let k = plan-kinds (plain (d .before .before .before .before .before .args .r)) (d .plan-of .result) (d .plan-of .ensures ∙ ap planOf (d .before .plain .ensures)) in (k .0, k .2)
+planned d = let k = planned-of (plain (d .before .before .before .before .before .args .r)) (d .plan-of .result) (d .plan-of .ensures ∙ ap planOf (d .before .plain .ensures)) in (k .kinds, k .long)
 
 start-reply-requires : tie.Need-start-reply-requires
 start-reply-requires c κs = search needs

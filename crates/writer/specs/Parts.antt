@@ -1,0 +1,226 @@
+-- How the bits of a record's frame part (01, Allotment, Coefficient codes): the budget, the 44 rates, the bits of the codes and those left for the tail.
+-- Assumes nothing.
+use mathlib.Core.Path.{_≡_, refl, sym, ap, ap₂, _∙_}
+use mathlib.Core.Bool.{Bool, true, false, cond}
+use mathlib.Core.List.{List, [], _∷_, map}
+use Prim.Native.Nat.{ℕ, _+_, _-_, _*_, _≤_, _<_}
+use native.Mathlib.Omega.{arith}
+use lib.Dec.{ltb, eqb}
+use lib.ListN.{length, replicate, take}
+use borrow.Author.Tests.{lt-ltb, le-ltb, eq-eqb, ne-eqb, ltb-true, ltb-false, eqb-true, eqb-false}
+use Rattle.ground.specs.Cases.{by-bool}
+use Rattle.ground.specs.Replies.{done, pastBudget, outOfRange, shortRoom, wideCode}
+use Rattle.bits.specs.Codecs.{writeAll}
+use Rattle.words.specs.Tables.{coding}
+use Rattle.prefix.specs.Sizes.{modeBytes, mode-bounds, mode-past}
+use Rattle.norms.specs.Answers.{normReply}
+use Rattle.norms.specs.Part.{normBits}
+use Rattle.allotment.specs.Allotment.{sharesOf}
+use Rattle.frame.specs.Kinds.{kinds, length-kinds}
+use Rattle.frame.specs.Layout.{spare, wideIn, budgetOf, kindsAt, kindsOf}
+use Rattle.frame.specs.declared.Record.{Record}
+use Rattle.writer.specs.Tests.{fits}
+use Rattle.writer.specs.declared.Plan.{Plan}
+use Rattle.writer.specs.declared.Parts.{Parts}
+use Rattle.writer.specs.declared.Spread.{Spread}
+
+-- ---- what a record's flags and norms say of its frame
+
+abbrev pub flagBits : Record → List Bool
+flagBits r = r .transient ∷ r .«flag_l» ∷ r .«flag_n» ∷ r .«flag_c» ∷ []
+
+abbrev pub total : Record → ℕ
+total r = modeBytes (r .mode) * 8
+
+abbrev pub budgetFor : Record → ℕ
+budgetFor r = budgetOf (total r) (flagBits r) (r .norms)
+
+abbrev pub ratesFor : Record → List ℕ
+ratesFor r = sharesOf (r .transient) (wideIn (total r) (r .«flag_l»)) (r .norms) (budgetFor r) .rates
+
+abbrev pub kindsFor : Record → List ℕ
+kindsFor r = kindsOf (total r) (flagBits r) (r .norms)
+
+unfoldable pub planOf : Record → Plan
+planOf r = record { budget = budgetFor r; rates = ratesFor r; kinds = kindsFor r }
+
+-- ---- the replies
+
+-- the first that is not 0
+abbrev pub firstOf : ℕ → ℕ → ℕ
+firstOf x y = cond (eqb x 0) y x
+
+-- 8 for the mode, 10 for under 800 numbers, and what the norms say: 8 or 9
+unfoldable pub startReply : Record → ℕ → ℕ
+startReply r codes =
+    cond (ltb 19 (r .mode)) outOfRange
+    (cond (ltb codes 800) shortRoom
+    (normReply (r .transient) (r .norms)))
+
+abbrev pub noParts : ℕ → Parts
+noParts reply = record { reply = reply; budget = 0; rates = replicate 44 0; «code_bits» = 0; «tail_bits» = 0 }
+
+-- the bits of the codes
+abbrev pub codesLong : List ℕ → List ℕ → ℕ
+codesLong kinds vs = length (writeAll (map coding kinds) vs)
+
+abbrev pub partsWith : ℕ → List ℕ → ℕ → Parts
+partsWith budget rates n = record { reply = done; budget = budget; rates = rates; «code_bits» = n; «tail_bits» = budget - n }
+
+-- 12: a code too wide for its rate or an unused place nonzero; 7: codes go past Ψ; else what the codes leave of Ψ is the tail
+unfoldable pub partsIn : ℕ → List ℕ → List ℕ → List ℕ → Parts
+partsIn budget rates kinds vs =
+    cond (fits (map coding kinds) vs) (cond (ltb budget (codesLong kinds vs)) (noParts pastBudget) (partsWith budget rates (codesLong kinds vs))) (noParts wideCode)
+
+-- as the FlagC choice, 8, 10, 8, 9, 12; then 7. Noise and tail are not looked at
+unfoldable pub layoutOf : Record → List ℕ → Parts
+layoutOf r cs =
+    cond (eqb (startReply r (length cs)) 0) (partsIn (budgetFor r) (ratesFor r) (kindsFor r) (take 800 cs)) (noParts (startReply r (length cs)))
+
+-- ---- the plan
+
+pub plan-made : (r : Record) (n b e : ℕ) (rs ks : List ℕ) → n ≡ length (normBits (r .transient) (r .«flag_n») (r .norms)) → e ≡ total r
+    → b ≡ e - (4 + n) - spare (r .transient) → rs ≡ sharesOf (r .transient) (wideIn e (r .«flag_l»)) (r .norms) b .rates → ks ≡ kinds (r .«flag_c») rs
+    → record { budget = b; rates = rs; kinds = ks } ≡ planOf r
+unfolding planOf budgetOf kindsOf kindsAt
+plan-made r n b e rs ks en ee eb er ek =
+    let m : b ≡ budgetFor r = eb ∙ ap₂ (λ (x y : ℕ). x - (4 + y) - spare (r .transient)) ee en in
+    let q : rs ≡ ratesFor r = er ∙ ap₂ (λ (x y : ℕ). sharesOf (r .transient) (wideIn x (r .«flag_l»)) (r .norms) y .rates) ee m in
+    let k : ks ≡ kindsFor r = ek ∙ ap (kinds (r .«flag_c»)) q in
+    ap (λ (x : ℕ). record { budget = x; rates = rs; kinds = ks }) m ∙ ap₂ (λ (x y : List ℕ). record { budget = budgetFor r; rates = x; kinds = y }) q k
+
+pub length-kinds-for : (r : Record) → length (kindsFor r) ≡ 800
+unfolding kindsOf kindsAt
+length-kinds-for r = length-kinds (r .«flag_c») _
+
+-- what a plan holds
+pub record Planned (r : Record) (p : Plan) : Type 0 where
+  pub budget : p .budget ≡ budgetFor r
+  pub rates : p .rates ≡ ratesFor r
+  pub kinds : p .kinds ≡ kindsFor r
+  pub long : length (p .kinds) ≡ 800
+
+pub planned : (r : Record) (p : Plan) → p ≡ planOf r → Planned r p
+unfolding planOf
+planned r p e =
+    record {
+      budget = ap (λ (x : Plan). x .budget) e;
+      rates = ap (λ (x : Plan). x .rates) e;
+      kinds = ap (λ (x : Plan). x .kinds) e;
+      long = ap (λ (x : Plan). length (x .kinds)) e ∙ length-kinds-for r;
+    }
+
+-- Ψ is a number of 16 bits, whatever the mode
+pub budget-small : (r : Record) → budgetFor r ≤ 2560
+unfolding budgetOf
+budget-small r =
+    by-bool (ltb (r .mode) 20)
+    (λ t. omega (arith, mode-bounds (r .mode) (ltb-true (r .mode) 20 t) .1))
+    (λ t. omega (arith, mode-past (r .mode) (ltb-false (r .mode) 20 t)))
+
+-- ---- the start, by the tests
+
+module _ (r : Record) (c : ℕ) where
+  pub start-mode : 19 < r .mode → outOfRange ≡ startReply r c
+  unfolding startReply
+  start-mode h = rw (lt-ltb 19 (r .mode) h)
+
+  module _ (m : r .mode ≤ 19) where
+    pub start-short : c < 800 → shortRoom ≡ startReply r c
+    unfolding startReply
+    start-short h = rw (le-ltb 19 (r .mode) m, lt-ltb c 800 h)
+
+    pub start-norms : 800 ≤ c → normReply (r .transient) (r .norms) ≡ startReply r c
+    unfolding startReply
+    start-norms h = rw (le-ltb 19 (r .mode) m, le-ltb c 800 h)
+
+-- what a start of 0 tells
+pub record Started (r : Record) (c : ℕ) : Type 0 where
+  pub mode : r .mode ≤ 19
+  pub codes : 800 ≤ c
+  pub norms : normReply (r .transient) (r .norms) ≡ done
+
+pub started : (r : Record) (c : ℕ) → startReply r c ≡ 0 → Started r c
+started r c e =
+    by-bool (ltb 19 (r .mode)) (λ a. absurd (let z = start-mode r c (ltb-true 19 (r .mode) a) in omega arith))
+    (λ a.
+    let m = ltb-false 19 (r .mode) a in
+    by-bool (ltb c 800) (λ b. absurd (let z = start-short r c m (ltb-true c 800 b) in omega arith))
+    (λ b. let l = ltb-false c 800 b in record { mode = m; codes = l; norms = start-norms r c m l ∙ e }))
+
+-- ---- the parts, by the tests
+
+module _ (budget : ℕ) (rates kinds vs : List ℕ) where
+  pub parts-wide : fits (map coding kinds) vs ≡ false → noParts wideCode ≡ partsIn budget rates kinds vs
+  unfolding partsIn
+  parts-wide e = rw e
+
+  module _ (f : fits (map coding kinds) vs ≡ true) (n : ℕ) (en : n ≡ codesLong kinds vs) where
+    pub parts-past : budget < n → noParts pastBudget ≡ partsIn budget rates kinds vs
+    unfolding partsIn
+    parts-past h = rw (f, lt-ltb budget (codesLong kinds vs) (omega arith))
+
+    pub parts-made : n ≤ budget → partsWith budget rates n ≡ partsIn budget rates kinds vs
+    unfolding partsIn
+    parts-made h = ap (partsWith budget rates) en ∙ (rw (f, le-ltb budget (codesLong kinds vs) (omega arith)))
+
+  -- what parts with reply 0 tell
+  pub parts-told : partsIn budget rates kinds vs .reply ≡ 0
+      → (fits (map coding kinds) vs ≡ true) × (codesLong kinds vs ≤ budget) × (partsIn budget rates kinds vs ≡ partsWith budget rates (codesLong kinds vs))
+  parts-told e =
+      by-bool (fits (map coding kinds) vs)
+      (λ f.
+      by-bool (ltb budget (codesLong kinds vs))
+      (λ p. absurd (let z = ap (λ (x : Parts). x .reply) (parts-past f (codesLong kinds vs) refl (ltb-true budget (codesLong kinds vs) p)) in omega arith))
+      (λ p. let h = ltb-false budget (codesLong kinds vs) p in (f, h, sym (parts-made f (codesLong kinds vs) refl h))))
+      (λ f. absurd (let z = ap (λ (x : Parts). x .reply) (parts-wide f) in omega arith))
+
+-- ---- the layout
+
+module _ (r : Record) (cs : List ℕ) (x : ℕ) (ex : x ≡ startReply r (length cs)) where
+  pub layout-start : (x ≡ 0 → ⊥) → noParts x ≡ layoutOf r cs
+  unfolding layoutOf
+  layout-start n = rw (← ex, ne-eqb x 0 n)
+
+  pub layout-parts : x ≡ 0 → partsIn (budgetFor r) (ratesFor r) (kindsFor r) (take 800 cs) ≡ layoutOf r cs
+  unfolding layoutOf
+  layout-parts z = rw (← ex, eq-eqb x 0 z)
+
+-- what a layout of reply 0 tells
+pub record Laid (r : Record) (cs : List ℕ) : Type 0 where
+  pub start : Started r (length cs)
+  pub fit : fits (map coding (kindsFor r)) (take 800 cs) ≡ true
+  pub paid : codesLong (kindsFor r) (take 800 cs) ≤ budgetFor r
+
+pub laid-out : (r : Record) (cs : List ℕ) → Laid r cs → layoutOf r cs ≡ partsWith (budgetFor r) (ratesFor r) (codesLong (kindsFor r) (take 800 cs))
+laid-out r cs L =
+    let S = L .start in
+    sym (layout-parts r cs _ refl (sym (start-norms r (length cs) (S .mode) (S .codes)) ∙ S .norms))
+    ∙ sym (parts-made (budgetFor r) (ratesFor r) (kindsFor r) (take 800 cs) (L .fit) _ refl (L .paid))
+
+pub laid-told : (r : Record) (cs : List ℕ) → layoutOf r cs .reply ≡ 0 → Laid r cs
+laid-told r cs e =
+    let s = startReply r (length cs) in
+    by-bool (eqb s 0)
+    (λ t.
+    let z = eqb-true s 0 t in
+    let p = parts-told (budgetFor r) (ratesFor r) (kindsFor r) (take 800 cs) (ap (λ (x : Parts). x .reply) (layout-parts r cs s refl z) ∙ e) in
+    record { start = started r (length cs) z; fit = p .0; paid = p .1 })
+    (λ t. let n = eqb-false s 0 t in absurd (n (ap (λ (x : Parts). x .reply) (layout-start r cs s refl n) ∙ e)))
+
+-- a layout with its kinds beside it
+pub record SpreadOf (r : Record) (cs : List ℕ) (s : Spread) : Type 0 where
+  pub parts : s .parts ≡ layoutOf r cs
+  pub kinds : s .parts .reply ≡ 0 → s .kinds ≡ kindsFor r
+
+module _ (r : Record) (cs : List ℕ) (x : ℕ) (ex : x ≡ startReply r (length cs)) (q : Parts) where
+  pub spread-refused : (x ≡ 0 → ⊥) → q ≡ noParts x → (ks : List ℕ) → SpreadOf r cs (record { parts = q; kinds = ks })
+  spread-refused n e ks = record { parts = e ∙ layout-start r cs x ex n; kinds = λ z. absurd (n (sym (ap (λ (y : Parts). y .reply) e) ∙ z)) }
+
+  pub spread-made : x ≡ 0 → (p : Plan) → p ≡ planOf r → q ≡ partsIn (p .budget) (p .rates) (p .kinds) (take 800 cs) → SpreadOf r cs (record { parts = q; kinds = p .kinds })
+  unfolding planOf
+  spread-made z p ep e =
+      record {
+        parts = e ∙ ap (λ (y : Plan). partsIn (y .budget) (y .rates) (y .kinds) (take 800 cs)) ep ∙ layout-parts r cs x ex z;
+        kinds = λ w. planned r p ep .kinds;
+      }
