@@ -46,8 +46,10 @@ use Rattle.frame.specs.Answers.{Outcome, refused, empty, sound, outcome, readBo
 use Rattle.frame.specs.declared.Record.{Record}
 use Rattle.writer.specs.Tests.{quietOf, fits, clear}
 use Rattle.writer.specs.Empty.{emptyReply}
-use Rattle.writer.specs.Writes.{kindsFor, budgetFor, earlyReply, lateReply, writeReply, outAfter}
-use Rattle.writer.specs.Choice.{plain, startReply, choiceReply, choiceOf as flagC}
+use Rattle.writer.specs.Parts.{kindsFor, budgetFor, codesLong, startReply, noParts, partsIn, layoutOf}
+use Rattle.writer.specs.Writes.{roomReply, tailReply, writeReply, outAfter}
+use Rattle.writer.specs.Choice.{plain, choiceReply, choiceOf as flagC}
+use Rattle.writer.specs.declared.Parts.{Parts}
 use Rattle.writer.specs.declared.Writing.{Writing as Written}
 use Rattle.listing.specs.Listing.{listedIn, outAfter as listed}
 use Rattle.listing.specs.declared.Listing.{Listing}
@@ -104,30 +106,44 @@ norm-among xs z e n transient norms =
     picked (OneOf xs) (inRange norms 44 && leb (getD norms 0 0) 31) (cond (stepsClose (sent transient norms)) done farApart) outOfRange
     (picked (OneOf xs) (stepsClose (sent transient norms)) done farApart z n) e
 
-early-number : (r : Record) (codes tail room : ℕ) → OneOf writing (earlyReply r codes tail room)
-unfolding among earlyReply
-early-number r codes tail room =
+room-number : (r : Record) (codes tail room : ℕ) → OneOf writing (roomReply r codes tail room)
+unfolding among roomReply
+room-number r codes tail room =
     picked (OneOf writing) (ltb 19 (r .mode)) outOfRange _ tt
     (picked (OneOf writing) (ltb codes 800) shortRoom _ tt
     (picked (OneOf writing) (ltb tail 320) shortRoom _ tt
     (picked (OneOf writing) (ltb room (modeBytes (r .mode) + 1)) shortRoom _ tt
-    (picked (OneOf writing) (quietOf (r .transient) (r .noise)) (normReply (r .transient) (r .norms)) outOfRange (norm-among writing tt tt tt (r .transient) (r .norms)) tt))))
+    (picked (OneOf writing) (quietOf (r .transient) (r .noise)) done outOfRange tt tt))))
 
-late-number : (kinds vs ts : List ℕ) (budget count : ℕ) → OneOf writing (lateReply kinds vs ts budget count)
-unfolding among lateReply
-late-number kinds vs ts budget count =
-    let n = length (writeAll (map coding kinds) vs) in
-    picked (OneOf writing) (fits (map coding kinds) vs) _ wideCode
-    (picked (OneOf writing) (ltb budget n) pastBudget _ tt
-    (picked (OneOf writing) (eqb count (budget - n)) _ wrongTail (picked (OneOf writing) (clear (view ts count (2560 - count))) done wrongTail tt tt) tt))
-    tt
+-- how a record starts: 0, 8, 9, 10
+start-among : (xs : List ℕ) → OneOf xs 0 → OneOf xs 8 → OneOf xs 9 → OneOf xs 10 → (r : Record) (codes : ℕ) → OneOf xs (startReply r codes)
+unfolding startReply
+start-among xs z e n t r codes =
+    picked (OneOf xs) (ltb 19 (r .mode)) outOfRange _ e (picked (OneOf xs) (ltb codes 800) shortRoom _ t (norm-among xs z e n (r .transient) (r .norms)))
+
+-- how it is laid out: 7 and 12 too
+layout-among : (xs : List ℕ) → OneOf xs 0 → OneOf xs 7 → OneOf xs 8 → OneOf xs 9 → OneOf xs 10 → OneOf xs 12 → (r : Record) (codes : List ℕ) → OneOf xs (layoutOf r codes .reply)
+unfolding layoutOf partsIn
+layout-among xs z s e n t w r codes =
+    let ks = kindsFor r in
+    let vs = take 800 codes in
+    let x = startReply r (length codes) in
+    picked (λ (p : Parts). OneOf xs (p .reply)) (eqb x 0) _ _
+    (picked (λ (p : Parts). OneOf xs (p .reply)) (fits (map coding ks) vs) _ _
+    (picked (λ (p : Parts). OneOf xs (p .reply)) (ltb (budgetFor r) (codesLong ks vs)) _ _ s z) w)
+    (start-among xs z e n t r (length codes))
+
+tail-number : (ts : List ℕ) (left count : ℕ) → OneOf writing (tailReply ts left count)
+unfolding among tailReply
+tail-number ts left count = picked (OneOf writing) (eqb count left) _ wrongTail (picked (OneOf writing) (clear (view ts count (2560 - count))) done wrongTail tt tt) tt
 
 pub write-number : (r : Record) (codes tail : List ℕ) (room : ℕ) → OneOf writing (writeReply r codes tail room)
-unfolding writeReply
+unfolding among writeReply
 write-number r codes tail room =
-    let x = earlyReply r (length codes) (length tail) room in
-    let y = lateReply (kindsFor r) (take 800 codes) tail (budgetFor r) (r .«tail_bits») in
-    picked (OneOf writing) (eqb x 0) y x (late-number (kindsFor r) (take 800 codes) tail (budgetFor r) (r .«tail_bits»)) (early-number r (length codes) (length tail) room)
+    let p = layoutOf r codes in
+    picked (OneOf writing) (eqb (roomReply r (length codes) (length tail) room) 0) _ _
+    (picked (OneOf writing) (eqb (p .reply) 0) _ _ (tail-number tail (p .«tail_bits») (r .«tail_bits»)) (layout-among writing tt tt tt tt tt tt r codes))
+    (room-number r (length codes) (length tail) room)
 
 pub write-keeps : (reply : ℕ) (r : Record) (codes tail out : List ℕ) → (reply ≡ 0 → ⊥) → outAfter reply r codes tail out ≡ out
 write-keeps reply r codes tail out n = rw (ne-eqb reply 0 n)
@@ -148,18 +164,31 @@ flag-n-number transient norms =
 abbrev choosing : List ℕ
 choosing = 0 ∷ 8 ∷ 9 ∷ 10 ∷ 12 ∷ []
 
-start-number : (r : Record) (codes : ℕ) → OneOf choosing (startReply r codes)
-unfolding among startReply
-start-number r codes =
-    picked (OneOf choosing) (ltb 19 (r .mode)) outOfRange _ tt
-    (picked (OneOf choosing) (ltb codes 800) shortRoom _ tt (norm-among choosing tt tt tt (r .transient) (r .norms)))
-
 pub flag-c-number : (r : Record) (codes : List ℕ) → OneOf choosing (flagC r codes .reply)
 unfolding among flagC choiceReply
 flag-c-number r codes =
     let x = startReply r (length codes) in
     picked (λ (c : Choice). OneOf choosing (c .reply)) (eqb (choiceReply r codes) 0) _ _ tt
-    (picked (OneOf choosing) (eqb x 0) _ x (picked (OneOf choosing) (fits (map coding (kindsFor (plain r))) (take 800 codes)) done wideCode tt tt) (start-number r (length codes)))
+    (picked (OneOf choosing) (eqb x 0) _ x (picked (OneOf choosing) (fits (map coding (kindsFor (plain r))) (take 800 codes)) done wideCode tt tt) (start-among choosing tt tt tt tt r (length codes)))
+
+-- ---- the layout of a record: 0, 7, 8, 9, 10, 12
+
+pub layout-number : (r : Record) (codes : List ℕ) → OneOf (0 ∷ 7 ∷ 8 ∷ 9 ∷ 10 ∷ 12 ∷ []) (layoutOf r codes .reply)
+unfolding among
+layout-number r codes = layout-among (0 ∷ 7 ∷ 8 ∷ 9 ∷ 10 ∷ 12 ∷ []) tt tt tt tt tt tt r codes
+
+abbrev Zeros : Parts → Type 0
+Zeros p = (p .reply ≡ 0 → ⊥) → p ≡ noParts (p .reply)
+
+-- any reply but 0 has all parts 0
+pub layout-zeros : (r : Record) (codes : List ℕ) → (layoutOf r codes .reply ≡ 0 → ⊥) → layoutOf r codes ≡ noParts (layoutOf r codes .reply)
+unfolding layoutOf partsIn
+layout-zeros r codes =
+    let ks = kindsFor r in
+    let vs = take 800 codes in
+    picked Zeros (eqb (startReply r (length codes)) 0) _ _
+    (picked Zeros (fits (map coding ks) vs) _ _ (picked Zeros (ltb (budgetFor r) (codesLong ks vs)) _ _ (λ n. refl) (λ n. absurd (n refl))) (λ n. refl))
+    (λ n. refl)
 
 -- ---- a recording: 0, 2, 3, 4, 5, 6, 7, 11, 15
 

@@ -12,7 +12,7 @@ use lib.IntN.{ℤ}
 use lib.ListN.{length, getD, take, drop, length-append}
 use lib.Seq.{take-at}
 use Rattle.ground.specs.Replies.{done, cut, noWord, pastBudget, shortRoom}
-use Rattle.bits.specs.Bits.{bitsOf, bytesOf, Bytes}
+use Rattle.bits.specs.Bits.{view, bitsOf, bytesOf, Bytes}
 use Rattle.bits.specs.Bytes.{bits-bytes, length-bytes}
 use Rattle.bits.specs.Codings.{Answer, got, no}
 use Rattle.bits.specs.declared.Refusal.the-variants.{Outside, Missing, Past}
@@ -20,13 +20,16 @@ use Rattle.prefix.specs.Sizes.{modeBytes, lengthBytes}
 use Rattle.prefix.specs.Prefix.{prefixOf, byteWith, zeroR, read-some, r-ignored, read-written}
 use Rattle.prefix.specs.declared.Prefix.{Prefix}
 use Rattle.prefix.specs.declared.Prefix.the-variants.{Data, NoData, NoByte, Marked, Reserved}
-use Rattle.frame.specs.Layout.{Frame, frame}
+use Rattle.frame.specs.Kinds.{kinds}
+use Rattle.frame.specs.Layout.{Frame, frame, kindsOf, kindsAt}
 use Rattle.frame.specs.Answers.{Outcome, refused, empty, sound, outcome, readBody, bodyOf, started, readAnswer, readingOf, codesAfter, tailAfter}
 use Rattle.frame.specs.Reads.{read-started, data-whole}
 use Rattle.frame.specs.declared.Record.{Record}
-use Rattle.writer.specs.Writes.{kindsFor, budgetFor, earlyReply, lateReply, writeReply, outAfter, early-norms, late-pad, reply-late}
-use Rattle.writer.specs.Tests.{all-fits}
-use Rattle.writer.specs.Bodies.{Passed, passed}
+use Rattle.writer.specs.Parts.{kindsFor, budgetFor, ratesFor, codesLong, startReply, partsWith, layoutOf, laid-out, laid-told}
+use Rattle.writer.specs.Writes.{writeReply, outAfter, reply-late, Roomy, rooms-enough, late-pad}
+use Rattle.writer.specs.declared.Parts.{Parts}
+use Rattle.writer.specs.Tests.{clear, all-fits}
+use Rattle.writer.specs.Bodies.{Passed, passed, writes}
 use Rattle.writer.specs.ReadBack as readback
 use Rattle.writer.specs.WriteBack.{write-back}
 use Rattle.lattice.specs.Answers.{pointOf, indexOf, noPoint, noIndex}
@@ -103,18 +106,51 @@ read-back r cs ts out codes tail l b hc ht z =
 
 -- Passed (writer/specs/Bodies) says the rules: mode, rooms, noise, norms, each code a word of its kind, Ψ kept, the tail's count and padding
 pub written-exactly : (r : Record) (cs ts : List ℕ) (room : ℕ) → (writeReply r cs ts room ≡ 0 → Passed r cs ts room) × (Passed r cs ts room → writeReply r cs ts room ≡ 0)
-written-exactly r cs ts room = (passed r cs ts room, writes)
-  where
-    writes : Passed r cs ts room → writeReply r cs ts room ≡ 0
-    writes P =
-        let R = P .rooms in
-        let ks = kindsFor r in
-        let vs = take 800 cs in
-        let early : earlyReply r (length cs) (length ts) room ≡ 0 =
-        sym (early-norms r (length cs) (length ts) room (R .mode) (R .codes) (R .tail) (modeBytes (r .mode)) refl (R .out) (R .quiet)) ∙ R .norms in
-        let late : lateReply ks vs ts (budgetFor r) (r .«tail_bits») ≡ 0 =
-        sym (late-pad ks vs ts (budgetFor r) (r .«tail_bits») (all-fits _ vs (P .fit)) _ refl (P .paid) true (P .count) (P .pad)) in
-        sym (reply-late r cs ts room _ _ refl early refl) ∙ late
+written-exactly r cs ts room = (passed r cs ts room, writes r cs ts room)
+
+-- ---- What a caller needs to write or to use codes: the layout
+
+-- the record with another tail count
+abbrev pub withTail : ℕ → Record → Record
+withTail n r =
+    record {
+      mode = r .mode;
+      transient = r .transient;
+      «flag_l» = r .«flag_l»;
+      «flag_n» = r .«flag_n»;
+      «flag_c» = r .«flag_c»;
+      norms = r .norms;
+      noise = r .noise;
+      «tail_bits» = n;
+    }
+
+-- the tail count that the layout gives is the one that is written: given room, noise that the kind of frame has, and a clear padding
+pub layout-writes : (r : Record) (cs ts : List ℕ) (room : ℕ) → layoutOf r cs .reply ≡ 0 → Roomy r (length cs) (length ts) room
+    → clear (view ts (layoutOf r cs .«tail_bits») (2560 - layoutOf r cs .«tail_bits»)) ≡ true → writeReply (withTail (layoutOf r cs .«tail_bits») r) cs ts room ≡ 0
+unfolding layoutOf startReply
+layout-writes r cs ts room z R c =
+    let n = layoutOf r cs .«tail_bits» in
+    let w = withTail n r in
+    let Q : Roomy w (length cs) (length ts) room = record { mode = R .mode; codes = R .codes; tail = R .tail; out = R .out; quiet = R .quiet } in
+    sym (reply-late w cs ts room _ _ refl (rooms-enough w (length cs) (length ts) room Q) (late-pad (layoutOf w cs) ts n z true refl c))
+
+-- and no other: whatever is written is laid out, with its own tail count
+pub written-laid-out : (r : Record) (cs ts : List ℕ) (room : ℕ) → writeReply r cs ts room ≡ 0 → layoutOf r cs ≡ partsWith (budgetFor r) (ratesFor r) (budgetFor r - r .«tail_bits»)
+written-laid-out r cs ts room z =
+    let P = passed r cs ts room z in
+    let k : codesLong (kindsFor r) (take 800 cs) ≡ budgetFor r - r .«tail_bits» = omega (arith, P .paid, P .count) in
+    laid-out r cs (record { start = record { mode = P .rooms .mode; codes = P .rooms .codes; norms = P .norms }; fit = all-fits _ (take 800 cs) (P .fit); paid = P .paid })
+    ∙ ap (partsWith (budgetFor r) (ratesFor r)) k
+
+-- the rates are those by which the 800 places are read and written (kinds, frame/specs/Kinds); codes and tail fill the budget
+pub layout-kinds : (r : Record) (cs : List ℕ) → layoutOf r cs .reply ≡ 0
+    → (kinds (r .«flag_c») (layoutOf r cs .rates) ≡ kindsFor r) × (layoutOf r cs .«code_bits» + layoutOf r cs .«tail_bits» ≡ layoutOf r cs .budget)
+unfolding kindsOf kindsAt
+layout-kinds r cs z =
+    let L = laid-told r cs z in
+    let e = laid-out r cs L in
+    let n = codesLong (kindsFor r) (take 800 cs) in
+    (ap (λ (p : Parts). kinds (r .«flag_c») (p .rates)) e, ap (λ (p : Parts). p .«code_bits» + p .«tail_bits») e ∙ (let q : n + (budgetFor r - n) ≡ budgetFor r = omega (arith, L .paid) in q) ∙ sym (ap (λ (p : Parts). p .budget) e))
 
 -- a frame by the rules (the codec `frame`, frame/specs/Layout) as long as its mode says, behind its prefix byte with any R and before anything
 pub read-exactly : (mode x : ℕ) (f : Frame) (rest : List ℕ) (codes tail : ℕ) → mode < 20 → x < 4 → frame (modeBytes mode * 8) .Ok f
