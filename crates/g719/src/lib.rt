@@ -8,15 +8,15 @@ ghost use Rattle.allotment.specs.Allotment.{sharesOf};
 ghost use Rattle.lattice.specs.Answers.{pointOf, indexOf};
 ghost use Rattle.codebook.specs.Codebook.{rowPoint, rowIndex};
 ghost use Rattle.frame.specs.Answers.{readAnswer, readingOf, codesAfter, tailAfter};
+ghost use Rattle.writer.specs.Parts.{layoutOf};
 ghost use Rattle.writer.specs.Writes.{writeReply, writingOf, outAfter};
 ghost use Rattle.writer.specs.Empty.{emptyReply, emptyAfter};
 ghost use Rattle.writer.specs.Choice.{choiceOf as flagC};
 ghost use Rattle.recording.specs.Walk.{checkOf};
 ghost use Rattle.g719.specs.Numbers.{prefixNumbers, byteNumbers};
+ghost use Rattle.g719.specs.Flags.{flagIn, flagOut, recordIn, recordOut, readingOut, choiceOut};
 use allotment::Shares;
 use codebook::Row;
-use frame::Reading;
-use frame::Record;
 use ground::replies::DONE;
 use ground::replies::MARKED;
 use ground::replies::NO_BYTE;
@@ -25,11 +25,11 @@ use ground::replies::OUT_OF_RANGE;
 use ground::replies::RESERVED;
 use lattice::Index;
 use lattice::Point;
-use norms::Choice;
 use norms::Legal;
 use prefix::Mode;
 use recording::answer::Check;
 use weights::Weights;
+use writer::Parts;
 use writer::Writing;
 
 // What a prefix byte says: the field L, the body bytes and the next place.
@@ -46,6 +46,100 @@ pub struct Prefix {
 pub struct Byte {
     pub reply: u8,
     pub byte: u8,
+}
+
+// A frame's record as C has it: each flag is a number, any but 0 being true.
+#[repr(C)]
+pub struct Record {
+    pub mode: u8,
+    pub transient: u8,
+    pub flag_l: u8,
+    pub flag_n: u8,
+    pub flag_c: u8,
+    pub norms: [u8; 44],
+    pub noise: u8,
+    pub tail_bits: u16,
+}
+
+// What reading answers, as C has it.
+#[repr(C)]
+pub struct Reading {
+    pub reply: u8,
+    pub next: usize,
+    pub record: Record,
+}
+
+// What a choice answers, as C has it: the flag is 0 or 1.
+#[repr(C)]
+pub struct Choice {
+    pub reply: u8,
+    pub flag: u8,
+}
+
+// Any number but 0 is true.
+fn flag_in(number: u8) -> bool
+    ensures { λ b. ⌜ b ≡ flagIn number ⌝ }
+{
+    number != 0
+}
+
+// 0 or 1.
+fn flag_out(flag: bool) -> u8
+    ensures { λ n. ⌜ n ≡ flagOut flag ⌝ }
+{
+    if flag { 1 } else { 0 }
+}
+
+fn record_in(r: Record) -> frame::Record
+    ensures { λ x. ⌜ x ≡ recordIn r ⌝ }
+{
+    let norms = r.norms;
+    frame::Record {
+        mode: r.mode,
+        transient: flag_in(r.transient),
+        flag_l: flag_in(r.flag_l),
+        flag_n: flag_in(r.flag_n),
+        flag_c: flag_in(r.flag_c),
+        norms,
+        noise: r.noise,
+        tail_bits: r.tail_bits,
+    }
+}
+
+fn record_out(r: frame::Record) -> Record
+    ensures { λ x. ⌜ x ≡ recordOut r ⌝ }
+{
+    let norms = r.norms;
+    Record {
+        mode: r.mode,
+        transient: flag_out(r.transient),
+        flag_l: flag_out(r.flag_l),
+        flag_n: flag_out(r.flag_n),
+        flag_c: flag_out(r.flag_c),
+        norms,
+        noise: r.noise,
+        tail_bits: r.tail_bits,
+    }
+}
+
+fn reading_out(r: frame::Reading) -> Reading
+    ensures { λ x. ⌜ x ≡ readingOut r ⌝ }
+{
+    let record = r.record;
+    Reading {
+        reply: r.reply,
+        next: r.next,
+        record: record_out(record),
+    }
+}
+
+fn choice_out(c: norms::Choice) -> Choice
+    ensures { λ x. ⌜ x ≡ choiceOut c ⌝ }
+{
+    Choice {
+        reply: c.reply,
+        flag: flag_out(c.flag),
+    }
 }
 
 // A prefix byte without a body; only for no data is there a next place.
@@ -107,19 +201,26 @@ pub extern "C" fn g719_write_prefix(mode: u8) -> Byte
 
 #[no_mangle]
 pub extern "C" fn g719_read(src: &[u8], codes: &mut [u16], tail: &mut [u8]) -> Reading
-    ensures { λ r. ⌜ (r ≡ readingOf (readAnswer (now (src .entry)) (length (now (codes .entry))) (length (now (tail .entry)))))
+    ensures { λ r. ⌜ (r ≡ readingOut (readingOf (readAnswer (now (src .entry)) (length (now (codes .entry))) (length (now (tail .entry))))))
         × (now (codes .exit) ≡ codesAfter (now (codes .entry)) (readAnswer (now (src .entry)) (length (now (codes .entry))) (length (now (tail .entry)))))
         × (now (tail .exit) ≡ tailAfter (now (tail .entry)) (readAnswer (now (src .entry)) (length (now (codes .entry))) (length (now (tail .entry))))) ⌝ }
 {
-    frame::read(src, codes, tail)
+    reading_out(frame::read(src, codes, tail))
 }
 
 #[no_mangle]
 pub extern "C" fn g719_write(record: Record, codes: &[u16], tail: &[u8], out: &mut [u8]) -> Writing
-    ensures { λ w. ⌜ (w ≡ writingOf (writeReply «record» (now (codes .entry)) (now (tail .entry)) (length (now (out .entry)))) («record» .mode))
-        × (now (out .exit) ≡ outAfter (writeReply «record» (now (codes .entry)) (now (tail .entry)) (length (now (out .entry)))) «record» (now (codes .entry)) (now (tail .entry)) (now (out .entry))) ⌝ }
+    ensures { λ w. ⌜ (w ≡ writingOf (writeReply (recordIn «record») (now (codes .entry)) (now (tail .entry)) (length (now (out .entry)))) («record» .mode))
+        × (now (out .exit) ≡ outAfter (writeReply (recordIn «record») (now (codes .entry)) (now (tail .entry)) (length (now (out .entry)))) (recordIn «record») (now (codes .entry)) (now (tail .entry)) (now (out .entry))) ⌝ }
 {
-    writer::write(record, codes, tail, out)
+    writer::write(record_in(record), codes, tail, out)
+}
+
+#[no_mangle]
+pub extern "C" fn g719_layout(record: Record, codes: &[u16]) -> Parts
+    ensures { λ p. ⌜ p ≡ layoutOf (recordIn «record») (now (codes .entry)) ⌝ }
+{
+    writer::layout(record_in(record), codes)
 }
 
 #[no_mangle]
@@ -130,42 +231,42 @@ pub extern "C" fn g719_write_empty(out: &mut [u8]) -> Writing
 }
 
 #[no_mangle]
-pub extern "C" fn g719_choose_flag_n(transient: bool, norms: &[u8; 44]) -> Choice
-    ensures { λ r. ⌜ r ≡ flagN transient (now (norms .entry)) ⌝ }
+pub extern "C" fn g719_choose_flag_n(transient: u8, norms: &[u8; 44]) -> Choice
+    ensures { λ r. ⌜ r ≡ choiceOut (flagN (flagIn transient) (now (norms .entry))) ⌝ }
 {
     let list = *norms;
-    norms::choose_flag_n(transient, list)
+    choice_out(norms::choose_flag_n(flag_in(transient), list))
 }
 
 #[no_mangle]
 pub extern "C" fn g719_choose_flag_c(record: Record, codes: &[u16]) -> Choice
-    ensures { λ r. ⌜ r ≡ flagC «record» (now (codes .entry)) ⌝ }
+    ensures { λ r. ⌜ r ≡ choiceOut (flagC (recordIn «record») (now (codes .entry))) ⌝ }
 {
-    writer::choice::choose_flag_c(record, codes)
+    choice_out(writer::choice::choose_flag_c(record_in(record), codes))
 }
 
 #[no_mangle]
-pub extern "C" fn g719_legalise(transient: bool, norms: &[u8; 44]) -> Legal
-    ensures { λ r. ⌜ r ≡ legalised transient (now (norms .entry)) ⌝ }
+pub extern "C" fn g719_legalise(transient: u8, norms: &[u8; 44]) -> Legal
+    ensures { λ r. ⌜ r ≡ legalised (flagIn transient) (now (norms .entry)) ⌝ }
 {
     let list = *norms;
-    norms::legalise(transient, list)
+    norms::legalise(flag_in(transient), list)
 }
 
 #[no_mangle]
-pub extern "C" fn g719_weigh(transient: bool, norms: &[u8; 44]) -> Weights
-    ensures { λ r. ⌜ r ≡ weighed transient (now (norms .entry)) ⌝ }
+pub extern "C" fn g719_weigh(transient: u8, norms: &[u8; 44]) -> Weights
+    ensures { λ r. ⌜ r ≡ weighed (flagIn transient) (now (norms .entry)) ⌝ }
 {
     let list = *norms;
-    weights::weigh(transient, list)
+    weights::weigh(flag_in(transient), list)
 }
 
 #[no_mangle]
-pub extern "C" fn g719_allot(transient: bool, wide: bool, norms: &[u8; 44], budget: u32) -> Shares
-    ensures { λ r. ⌜ r ≡ sharesOf transient wide (now (norms .entry)) budget ⌝ }
+pub extern "C" fn g719_allot(transient: u8, wide: u8, norms: &[u8; 44], budget: u32) -> Shares
+    ensures { λ r. ⌜ r ≡ sharesOf (flagIn transient) (flagIn wide) (now (norms .entry)) budget ⌝ }
 {
     let list = *norms;
-    allotment::allot(transient, wide, list, budget)
+    allotment::allot(flag_in(transient), flag_in(wide), list, budget)
 }
 
 #[no_mangle]
