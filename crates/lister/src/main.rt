@@ -1,4 +1,5 @@
-// The lister (01, Lister): a line for each frame of the recording on standard input, then the total line; one line for more than 65,536 bytes.
+// The lister (01, Lister): a line for each frame of the recording on standard input, then the total line. One line alone for more than 65,536
+// bytes, for an input that could not be read, and for an argument.
 ghost use mathlib.Core.Path.{_≡_};
 ghost use lib.ListN.{length};
 ghost use Rattle.lister.specs.Reading.{told, Within};
