@@ -5,7 +5,7 @@ use Prim.Native.Nat.{ℕ, zero, suc, _+_}
 use lib.Dec.{eqb, leb}
 use lib.IntN.{ℤ}
 use lib.Signed.{ltZ}
-use Rattle.contest.specs.Rounds.{Game, first, ahead, round, contest, begin}
+use Rattle.contest.specs.Rounds.{Game, first, ahead, round, begin}
 
 -- a step of rate: the band that got it, and its score before it fell
 pub record Grant : Type 0 where
