@@ -20,7 +20,6 @@ use Rattle.frame.specs.Layout.{Frame, frame}
 use Rattle.frame.specs.Answers.{Outcome, refused, empty, sound, outcome, readBody, readAnswer, readingOf, codesAfter, tailAfter}
 use Rattle.frame.specs.Reads.{read-started, data-whole}
 use Rattle.frame.specs.declared.Record.{Record}
-use Rattle.frame.specs.declared.Reading.{Reading}
 use Rattle.writer.specs.Writes.{kindsFor, budgetFor, earlyReply, lateReply, writeReply, outAfter, early-norms, late-pad, reply-late}
 use Rattle.writer.specs.Tests.{all-fits}
 use Rattle.writer.specs.Bodies.{Passed, passed}
@@ -138,20 +137,3 @@ rows-one-to-one = codebook.one-to-one
 
 pub other-rates-than-1 : (rate : ℕ) → (rate ≡ 1 → ⊥) → (n : ℕ) (v : List ℤ) → (rowPoint rate n ≡ noPoint) × (rowIndex rate v ≡ noRow)
 other-rates-than-1 = codebook.foreign
-
--- ---- Every promise of this library is one equation for the result and one for each lent slice, so two results that meet it are equal
-
-pub unique : {A : Type 0} {answer a b : A} → a ≡ answer → b ≡ answer → a ≡ b
-unique p q = p ∙ sym q
-
--- the contract of `frame::read` on a run: its bytes and lent slices at entry, its result, its lent slices at exit
-abbrev pub ReadMet : (src codes tail : List ℕ) → (result : Reading) (codesExit tailExit : List ℕ) → Type 0
-ReadMet src codes tail result codesExit tailExit =
-    let a = readAnswer src (length codes) (length tail) in
-    (result ≡ readingOf a) × (codesExit ≡ codesAfter codes a) × (tailExit ≡ tailAfter tail a)
-
--- two runs that meet it from the same entry end the same
-pub read-unique : (src codes tail : List ℕ) (r s : Reading) (rCodes sCodes rTail sTail : List ℕ) → ReadMet src codes tail r rCodes rTail
-    → ReadMet src codes tail s sCodes sTail → (r ≡ s) × (rCodes ≡ sCodes) × (rTail ≡ sTail)
-read-unique src codes tail r s rCodes sCodes rTail sTail p q =
-    (unique (p .0) (q .0), unique (p .1) (q .1), unique (p .2) (q .2))
