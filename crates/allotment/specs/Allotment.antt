@@ -8,12 +8,17 @@ use Rattle.ground.specs.Replies.{done, outOfRange}
 use Rattle.weights.specs.Weights.{nthZ, scoresOf}
 use Rattle.ground.specs.Indices.{inRange}
 use Rattle.contest.specs.Bands.{lengthOf, competing}
+use Rattle.contest.specs.Grants.{Grant, granting}
 use Rattle.contest.specs.Rounds.{Game, played, rates}
 use Rattle.allotment.specs.declared.Shares.{Shares}
 
 -- the end of the contest that starts from the scores of 7.5.1
 unfoldable pub endOf : Bool → Bool → List ℕ → ℕ → Game
 endOf transient wide norms budget = let ss = scoresOf transient norms in played lengthOf (nthZ ss) (competing wide) budget
+
+-- the steps that this contest grants, in the order of its rounds
+unfoldable pub grantsOf : Bool → Bool → List ℕ → ℕ → List Grant
+grantsOf transient wide norms budget = granting lengthOf (nthZ (scoresOf transient norms)) (competing wide) budget
 
 -- the 44 rates, and the bits left
 unfoldable pub ratesOf : Bool → Bool → List ℕ → ℕ → List ℕ

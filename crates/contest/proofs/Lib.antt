@@ -3,3 +3,4 @@ pub mod Ends
 pub mod Fair
 pub mod Bridge
 pub mod Promise
+pub mod Grants

@@ -1,4 +1,5 @@
 pub mod Bands
 pub mod Rounds
+pub mod Grants
 pub mod Fairness
 pub mod Raised

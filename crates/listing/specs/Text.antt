@@ -2,7 +2,9 @@
 -- Assumes nothing.
 use mathlib.Core.Bool.{cond}
 use mathlib.Core.List.{List, [], _∷_, _++_}
+use Prim.Native.Char.{code}
 use Prim.Native.Nat.{ℕ, zero, suc, _+_, _/_, _%_}
+use Prim.Native.String.{String, [] as nothing, _∷_ as _then_}
 use lib.Dec.{ltb}
 
 -- a number below ten
@@ -57,3 +59,8 @@ frameLine number reply bytes = four number ++ (space ++ (decimal reply ++ (space
 unfoldable pub totalLine : ℕ → ℕ → ℕ → List ℕ
 totalLine count reply place =
     totalText ++ (decimal count ++ (answerText ++ (decimal reply ++ (atText ++ (decimal place ++ newline)))))
+
+-- the bytes of a text in ASCII, a byte for each character: what examples are written in
+unfoldable pub ascii : String → List ℕ
+ascii nothing = []
+ascii (c then s) = code c ∷ ascii s

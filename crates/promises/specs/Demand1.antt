@@ -3,25 +3,25 @@
 -- That no call faults is what the proof of each function says, and none of these calls asks anything of its caller. Here is the rest: the numbers of
 -- 01's table that each call can answer, and what a refusal leaves.
 -- Assumes nothing.
-use mathlib.Core.Path.{_≡_, refl, sym, subst}
-use mathlib.Core.Bool.{Bool, cond, _&&_}
+use mathlib.Core.Path.{_≡_, refl, sym, ap, subst, _∙_}
+use mathlib.Core.Bool.{Bool, false, cond, _&&_}
 use mathlib.Core.List.{List, [], _∷_, map}
 use mathlib.Core.Logic.{inl, inr}
-use Prim.Native.Nat.{ℕ, zero, suc, _+_, _-_, _*_, _^_, _≤_, _<_}
+use Prim.Native.Nat.{ℕ, zero, suc, _+_, _-_, _^_, _≤_, _<_}
 use native.Mathlib.Omega.{arith}
 use lib.Dec.{eqb, ltb, leb}
-use lib.IntN.{ℤ}
-use lib.ListN.{length, getD, take}
-use borrow.Author.Tests.{ne-eqb, lt-ltb}
+use lib.IntN.{ℤ, pos}
+use lib.ListN.{length, getD, take, replicate}
+use borrow.Author.Tests.{ne-eqb, lt-ltb, eqb-true}
+use Rattle.ground.specs.Cases.{by-bool}
+use Rattle.ground.specs.Fills.{from}
 use Rattle.ground.specs.Indices.{inRange}
-use Rattle.ground.specs.Replies.{done, outOfRange, farApart, shortRoom, cut, wideCode, pastBudget, wrongTail}
-use Rattle.bits.specs.Bits.{view, bitsOf}
-use Rattle.bits.specs.Codings.{Answer, got, no}
+use Rattle.ground.specs.Replies.{done, outOfRange, farApart, shortRoom, wideCode, pastBudget, wrongTail}
+use Rattle.bits.specs.Bits.{view}
 use Rattle.bits.specs.Codecs.{writeAll}
-use Rattle.bits.specs.declared.Refusal.the-variants.{Outside, Missing, Past}
 use Rattle.words.specs.Tables.{coding}
-use Rattle.prefix.specs.Sizes.{lengthBytes, modeBytes}
-use Rattle.prefix.specs.Prefix.{prefixOf, readingOf as prefixReading, writingOf as prefixWriting}
+use Rattle.prefix.specs.Sizes.{modeBytes}
+use Rattle.prefix.specs.Prefix.{prefixOf, byteOf, readingOf as prefixReading, writingOf as prefixWriting, Reading as PrefixAnswer, Writing as ByteAnswer}
 use Rattle.prefix.specs.declared.Prefix.{Prefix}
 use Rattle.prefix.specs.declared.Prefix.the-variants.{Data, NoData, NoByte, Marked, Reserved}
 use Rattle.prefix.specs.declared.Byte.{Byte}
@@ -41,8 +41,8 @@ use Rattle.lattice.specs.declared.Point.{Point}
 use Rattle.lattice.specs.declared.Index.{Index}
 use Rattle.codebook.specs.Codebook.{eight, book, placeOf, rowPoint, rowIndex}
 use Rattle.codebook.specs.declared.Row.{Row}
-use Rattle.frame.specs.Layout.{Frame, frame}
-use Rattle.frame.specs.Answers.{Outcome, refused, empty, sound, outcome, readBody, started, readAnswer, readingOf, codesAfter, tailAfter, bodyOf}
+use Rattle.frame.specs.Answers.{Outcome, refused, empty, sound, readAnswer, noRecord, readingOf, codesAfter, tailAfter}
+use Rattle.frame.specs.declared.Reading.{Reading}
 use Rattle.frame.specs.declared.Record.{Record}
 use Rattle.writer.specs.Tests.{quietOf, fits, clear}
 use Rattle.writer.specs.Empty.{emptyReply}
@@ -53,9 +53,13 @@ use Rattle.writer.specs.declared.Parts.{Parts}
 use Rattle.writer.specs.declared.Writing.{Writing as Written}
 use Rattle.listing.specs.Listing.{listedIn, outAfter as listed}
 use Rattle.listing.specs.declared.Listing.{Listing}
-use Rattle.recording.specs.Walk.{checkOf}
+use Rattle.recording.specs.Walk.{walk, booked, mostFrames, checkOf}
+use Rattle.recording.specs.declared.answer.Check.{Check}
 use Rattle.recording.specs.Checked.{Number, check-replies}
+use Rattle.writer.specs.Empty.{emptyAfter}
+use Rattle.writer.specs.Writes.{writingOf}
 use Rattle.promises.specs.Numbers.{among, OneOf, picked}
+use Rattle.promises.specs.Reads.{each-reading}
 
 -- ---- reading a frame: 0, 1, 2, 3, 4, 5, 6, 7, 10, 14
 
@@ -65,28 +69,9 @@ reading = 0 ∷ 1 ∷ 2 ∷ 3 ∷ 4 ∷ 5 ∷ 6 ∷ 7 ∷ 10 ∷ 14 ∷ []
 abbrev Reads : Outcome → Type 0
 Reads o = OneOf reading (readingOf o .reply)
 
-body-number : (mode : ℕ) (a : Answer Frame) → Reads (outcome mode a)
-unfolding among
-body-number mode (got x r) = tt
-body-number mode (no Outside) = tt
-body-number mode (no Missing) = tt
-body-number mode (no Past) = tt
-
-started-number : (src : List ℕ) (p : Prefix) → Reads (started p src)
-unfolding among readBody
-started-number src NoByte = tt
-started-number src Marked = tt
-started-number src Reserved = tt
-started-number src NoData = tt
-started-number src (Data l) =
-    picked Reads (ltb (lengthBytes (l .0)) (length src)) (readBody (l .0 - 8) (bodyOf (lengthBytes (l .0)) src)) (refused cut)
-    (body-number (l .0 - 8) (frame (length (bodyOf (lengthBytes (l .0)) src) * 8) .read (bitsOf (bodyOf (lengthBytes (l .0)) src)))) tt
-
 pub read-number : (src : List ℕ) (codes tail : ℕ) → OneOf reading (readingOf (readAnswer src codes tail) .reply)
-unfolding among readAnswer
-read-number src codes tail =
-    picked Reads (ltb codes 800) (refused shortRoom) (cond (ltb tail 320) (refused shortRoom) (started (prefixOf src) src)) tt
-    (picked Reads (ltb tail 320) (refused shortRoom) (started (prefixOf src) src) tt (started-number src (prefixOf src)))
+unfolding among
+read-number = each-reading Reads tt tt tt tt tt tt tt tt tt (λ mode x. tt)
 
 -- any reply but 0 leaves the lent numbers and bytes as they were
 pub read-keeps : (codes tail : List ℕ) (o : Outcome) → (readingOf o .reply ≡ 0 → ⊥) → (codesAfter codes o ≡ codes) × (tailAfter tail o ≡ tail)
@@ -153,6 +138,11 @@ write-keeps reply r codes tail out n = rw (ne-eqb reply 0 n)
 pub empty-number : (room : ℕ) → OneOf (0 ∷ 10 ∷ []) (emptyReply room .reply)
 unfolding among emptyReply
 empty-number room = picked (λ (w : Written). OneOf (0 ∷ 10 ∷ []) (w .reply)) (eqb room 0) _ _ tt tt
+
+pub empty-keeps : (out : List ℕ) → (emptyReply (length out) .reply ≡ 0 → ⊥) → emptyAfter out ≡ out
+unfolding emptyReply emptyAfter
+empty-keeps [] n = refl
+empty-keeps (x ∷ out) n = absurd (n (rw (ne-eqb (suc (length out)) 0 (λ e. omega arith))))
 
 -- ---- the choices: FlagN 0, 8, 9; FlagC 0, 8, 9, 10, 12
 
@@ -274,3 +264,152 @@ row-point-number rate index = picked (λ (a : Point). OneOf two (a .reply)) (eqb
 pub row-index-number : (rate : ℕ) (point : List ℤ) → OneOf two (rowIndex rate point .reply)
 unfolding among rowIndex
 row-index-number rate point = picked (λ (a : Row). OneOf two (a .reply)) (eqb rate 1 && ltb (placeOf (eight point) book) 256) _ _ tt tt
+
+-- ---- what a refusal leaves in the answer. 01: "all result fields are 0 save the number, for 14 the place, and for the file check its count of sound
+-- frames and its place"; "only 0 and 14 give a next place". For each answer what holds on any reply but 0, then that it holds of the call on every input
+
+-- the next place that comes with a number other than 0
+abbrev pub placeOn : ℕ → ℕ
+placeOn reply = cond (eqb reply 14) 1 0
+
+-- so only 0 and 14 give a next place
+only-0-and-14 : (reply next : ℕ) → ((reply ≡ 0 → ⊥) → next ≡ placeOn reply) → 0 < next → OneOf (0 ∷ 14 ∷ []) reply
+unfolding among
+only-0-and-14 zero next e h = tt
+only-0-and-14 (suc x) next e h =
+    let q = e (λ z. omega arith) in
+    by-bool (eqb (suc x) 14) (λ t. rw (eqb-true (suc x) 14 t) tt) (λ t. absurd (let z : next ≡ 0 = q ∙ rw t in omega arith))
+
+-- a frame that is read; noRecord has 0 in each of its fields
+abbrev pub ReadingZeros : Reading → Type 0
+ReadingZeros a = (a .reply ≡ 0 → ⊥) → a ≡ record { reply = a .reply; next = placeOn (a .reply); «record» = noRecord }
+
+pub read-zeros : (src : List ℕ) (codes tail : ℕ) → ReadingZeros (readingOf (readAnswer src codes tail))
+read-zeros =
+    each-reading (λ (o : Outcome). ReadingZeros (readingOf o)) (λ n. refl) (λ n. refl) (λ n. refl) (λ n. refl) (λ n. refl) (λ n. refl) (λ n. refl) (λ n. refl)
+    (λ n. refl) (λ mode x n. absurd (n refl))
+
+pub read-place : (src : List ℕ) (codes tail : ℕ) → let a = readingOf (readAnswer src codes tail) in 0 < a .next → OneOf (0 ∷ 14 ∷ []) (a .reply)
+read-place src codes tail = only-0-and-14 _ _ (λ n. ap (λ (a : Reading). a .next) (read-zeros src codes tail n))
+
+-- the prefix byte, read
+abbrev pub PrefixZeros : PrefixAnswer → Type 0
+PrefixZeros a = (a .reply ≡ 0 → ⊥) → a ≡ record { reply = a .reply; field = 0; bytes = 0; next = placeOn (a .reply) }
+
+pub prefix-zeros : (src : List ℕ) → PrefixZeros (prefixReading (prefixOf src))
+prefix-zeros src = go (prefixOf src)
+  where
+    go : (p : Prefix) → PrefixZeros (prefixReading p)
+    go (Data l) n = absurd (n refl)
+    go NoData n = refl
+    go NoByte n = refl
+    go Marked n = refl
+    go Reserved n = refl
+
+pub prefix-place : (src : List ℕ) → let a = prefixReading (prefixOf src) in 0 < a .next → OneOf (0 ∷ 14 ∷ []) (a .reply)
+prefix-place src = only-0-and-14 _ _ (λ n. ap (λ (a : PrefixAnswer). a .next) (prefix-zeros src n))
+
+-- the prefix byte, written
+abbrev pub ByteZeros : ByteAnswer → Type 0
+ByteZeros a = (a .reply ≡ 0 → ⊥) → a ≡ record { reply = a .reply; byte = 0 }
+
+pub byte-zeros : (mode : ℕ) → ByteZeros (prefixWriting (byteOf mode))
+byte-zeros mode = go (byteOf mode)
+  where
+    go : (b : Byte) → ByteZeros (prefixWriting b)
+    go (Is b) n = absurd (n refl)
+    go OutOfRange n = refl
+
+-- a frame that is written, and an empty one: no place but with 0
+abbrev pub WritingZeros : Written → Type 0
+WritingZeros a = (a .reply ≡ 0 → ⊥) → a ≡ record { reply = a .reply; next = 0 }
+
+pub write-zeros : (r : Record) (codes tail : List ℕ) (room : ℕ) → WritingZeros (writingOf (writeReply r codes tail room) (r .mode))
+write-zeros r codes tail room = picked WritingZeros (eqb (writeReply r codes tail room) 0) _ _ (λ n. absurd (n refl)) (λ n. refl)
+
+pub empty-zeros : (room : ℕ) → WritingZeros (emptyReply room)
+unfolding emptyReply
+empty-zeros room = picked WritingZeros (eqb room 0) _ _ (λ n. refl) (λ n. absurd (n refl))
+
+-- the choices of FlagN and FlagC: no flag but with 0
+abbrev pub ChoiceZeros : Choice → Type 0
+ChoiceZeros a = (a .reply ≡ 0 → ⊥) → a ≡ record { reply = a .reply; flag = false }
+
+pub flag-n-zeros : (transient : Bool) (norms : List ℕ) → ChoiceZeros (flagN transient norms)
+unfolding flagN
+flag-n-zeros transient norms = picked ChoiceZeros (eqb (normReply transient norms) 0) _ _ (λ n. absurd (n refl)) (λ n. refl)
+
+pub flag-c-zeros : (r : Record) (codes : List ℕ) → ChoiceZeros (flagC r codes)
+unfolding flagC
+flag-c-zeros r codes = picked ChoiceZeros (eqb (choiceReply r codes) 0) _ _ (λ n. absurd (n refl)) (λ n. refl)
+
+-- legal norms
+abbrev pub LegalZeros : Legal → Type 0
+LegalZeros a = (a .reply ≡ 0 → ⊥) → a ≡ record { reply = a .reply; norms = replicate 44 0 }
+
+pub legal-zeros : (transient : Bool) (norms : List ℕ) → LegalZeros (legalised transient norms)
+unfolding legalised
+legal-zeros transient norms = picked LegalZeros (inRange norms 44) _ _ (λ n. absurd (n refl)) (λ n. refl)
+
+-- weights and scores
+abbrev pub WeightsZeros : Weights → Type 0
+WeightsZeros a = (a .reply ≡ 0 → ⊥) → a ≡ record { reply = a .reply; weights = replicate 44 0; scores = replicate 44 (pos 0) }
+
+pub weigh-zeros : (transient : Bool) (norms : List ℕ) → WeightsZeros (weighed transient norms)
+unfolding weighed
+weigh-zeros transient norms = picked WeightsZeros (inRange norms 44) _ _ (λ n. absurd (n refl)) (λ n. refl)
+
+-- rates and bits left
+abbrev pub SharesZeros : Shares → Type 0
+SharesZeros a = (a .reply ≡ 0 → ⊥) → a ≡ record { reply = a .reply; rates = replicate 44 0; left = 0 }
+
+pub allot-zeros : (transient wide : Bool) (norms : List ℕ) (budget : ℕ) → SharesZeros (sharesOf transient wide norms budget)
+unfolding sharesOf
+allot-zeros transient wide norms budget = picked SharesZeros (inRange norms 44 && leb budget 2560) _ _ (λ n. absurd (n refl)) (λ n. refl)
+
+-- a point, at rates 2 to 9 and at rate 1
+abbrev pub PointZeros : Point → Type 0
+PointZeros a = (a .reply ≡ 0 → ⊥) → a ≡ record { reply = a .reply; at = replicate 8 (pos 0) }
+
+pub point-zeros : (rate : ℕ) (index : List ℕ) → PointZeros (pointOf rate index)
+unfolding pointOf from
+point-zeros rate index = picked PointZeros (owns rate && below (2 ^ rate) index 8) _ _ (λ n. absurd (n refl)) (λ n. refl)
+
+pub row-point-zeros : (rate index : ℕ) → PointZeros (rowPoint rate index)
+unfolding rowPoint from
+row-point-zeros rate index = picked PointZeros (eqb rate 1 && ltb index 256) _ _ (λ n. absurd (n refl)) (λ n. refl)
+
+-- an index at rates 2 to 9
+abbrev pub IndexZeros : Index → Type 0
+IndexZeros a = (a .reply ≡ 0 → ⊥) → a ≡ record { reply = a .reply; at = replicate 8 0 }
+
+pub index-zeros : (rate : ℕ) (point : List ℤ) → IndexZeros (indexOf rate point)
+unfolding indexOf from
+index-zeros rate point =
+    let r = 2 ^ rate in
+    picked IndexZeros (owns rate && agree (Rattle.lattice.specs.Lattice.point r (back r point)) point 8) _ _ (λ n. absurd (n refl)) (λ n. refl)
+
+-- an index at rate 1
+abbrev pub RowZeros : Row → Type 0
+RowZeros a = (a .reply ≡ 0 → ⊥) → a ≡ record { reply = a .reply; index = 0 }
+
+pub row-index-zeros : (rate : ℕ) (point : List ℤ) → RowZeros (rowIndex rate point)
+unfolding rowIndex
+row-index-zeros rate point = picked RowZeros (eqb rate 1 && ltb (placeOf (eight point) book) 256) _ _ (λ n. absurd (n refl)) (λ n. refl)
+
+-- a listing
+abbrev pub ListingZeros : Listing → Type 0
+ListingZeros a = (a .reply ≡ 0 → ⊥) → a ≡ record { reply = a .reply; length = 0 }
+
+pub list-zeros : (src : List ℕ) (room : ℕ) → ListingZeros (listedIn src room)
+unfolding listedIn
+list-zeros src room = picked ListingZeros (ltb room 33030) _ _ (λ n. refl) (λ n. absurd (n refl))
+
+-- the file check keeps its count and its place on every reply: they are the walk's, whatever the booking
+pub check-keeps : (src : List ℕ) (booking : ℕ)
+    → (checkOf src booking .count ≡ walk mostFrames src .count) × (checkOf src booking .place ≡ walk mostFrames src .place)
+unfolding checkOf booked
+check-keeps src booking =
+    let w = walk mostFrames src in
+    picked (λ (c : Check). (c .count ≡ w .count) × (c .place ≡ w .place)) (eqb (w .reply) 0) _ _
+    (picked (λ (c : Check). (c .count ≡ w .count) × (c .place ≡ w .place)) (eqb (w .count) booking) _ _ (refl, refl) (refl, refl)) (refl, refl)

@@ -2,27 +2,23 @@
 -- written: that record returns. At rates 2–9 lattice indices and points match one to one; any other point is refused.
 -- Assumes nothing.
 use mathlib.Core.Path.{_≡_, refl, sym, ap, ap₂, _∙_}
-use mathlib.Core.Bool.{Bool, true, false, cond}
+use mathlib.Core.Bool.{Bool, true, false}
 use mathlib.Core.List.{List, [], _∷_, _++_, append-nil}
 use Prim.Native.Nat.{ℕ, _+_, _-_, _*_, _≤_, _<_, zero-le}
 use native.Mathlib.Numerals.{add-one}
 use native.Mathlib.Omega.{arith}
-use lib.Dec.{ltb}
 use lib.IntN.{ℤ}
 use lib.ListN.{length, getD, take, drop, length-append}
 use lib.Seq.{take-at}
-use Rattle.ground.specs.Replies.{done, cut, noWord, pastBudget, shortRoom}
+use Rattle.ground.specs.Replies.{done, noWord, pastBudget}
 use Rattle.bits.specs.Bits.{view, bitsOf, bytesOf, Bytes}
 use Rattle.bits.specs.Bytes.{bits-bytes, length-bytes}
-use Rattle.bits.specs.Codings.{Answer, got, no}
-use Rattle.bits.specs.declared.Refusal.the-variants.{Outside, Missing, Past}
-use Rattle.prefix.specs.Sizes.{modeBytes, lengthBytes}
+use Rattle.prefix.specs.Sizes.{modeBytes}
 use Rattle.prefix.specs.Prefix.{prefixOf, byteWith, zeroR, read-some, r-ignored, read-written}
-use Rattle.prefix.specs.declared.Prefix.{Prefix}
-use Rattle.prefix.specs.declared.Prefix.the-variants.{Data, NoData, NoByte, Marked, Reserved}
+use Rattle.prefix.specs.declared.Prefix.the-variants.{Data}
 use Rattle.frame.specs.Kinds.{kinds}
 use Rattle.frame.specs.Layout.{Frame, frame, kindsOf, kindsAt}
-use Rattle.frame.specs.Answers.{Outcome, refused, empty, sound, outcome, readBody, bodyOf, started, readAnswer, readingOf, codesAfter, tailAfter}
+use Rattle.frame.specs.Answers.{Outcome, refused, empty, sound, outcome, readBody, readAnswer, readingOf, codesAfter, tailAfter}
 use Rattle.frame.specs.Reads.{read-started, data-whole}
 use Rattle.frame.specs.declared.Record.{Record}
 use Rattle.writer.specs.Parts.{kindsFor, budgetFor, ratesFor, codesLong, startReply, partsWith, layoutOf, laid-out, laid-told}
@@ -38,7 +34,7 @@ use Rattle.codebook.specs.Codebook.{rowPoint, rowIndex, noRow}
 use Rattle.codebook.specs.OneToOne as codebook
 use Rattle.frame.proofs.PlainCodes as reading
 use Rattle.writer.proofs.PlainCodes as writing
-use Rattle.promises.specs.Numbers.{picked}
+use Rattle.promises.specs.Reads.{each-reading}
 
 -- ---- Write back a frame that was read: its bytes return, with R zero
 
@@ -55,27 +51,10 @@ NotDone (refused x) = x ≡ 0 → ⊥
 NotDone empty = Unit {0}
 NotDone (sound mode x) = Unit {0}
 
-body-told : (mode : ℕ) (a : Answer Frame) → NotDone (outcome mode a)
-body-told mode (got x r) = tt
-body-told mode (no Outside) = λ e. omega arith
-body-told mode (no Missing) = λ e. omega arith
-body-told mode (no Past) = λ e. omega arith
-
-started-told : (src : List ℕ) (p : Prefix) → NotDone (started p src)
-unfolding readBody
-started-told src NoByte = λ e. omega arith
-started-told src Marked = λ e. omega arith
-started-told src Reserved = λ e. omega arith
-started-told src NoData = tt
-started-told src (Data l) =
-    let n = lengthBytes (l .0) in
-    picked NotDone (ltb n (length src)) (readBody (l .0 - 8) (bodyOf n src)) (refused cut) (body-told (l .0 - 8) (frame (length (bodyOf n src) * 8) .read (bitsOf (bodyOf n src)))) (λ e. omega arith)
-
 answer-told : (src : List ℕ) (codes tail : ℕ) → NotDone (readAnswer src codes tail)
-unfolding readAnswer
-answer-told src codes tail =
-    picked NotDone (ltb codes 800) (refused shortRoom) (cond (ltb tail 320) (refused shortRoom) (started (prefixOf src) src)) (λ e. omega arith)
-    (picked NotDone (ltb tail 320) (refused shortRoom) (started (prefixOf src) src) (λ e. omega arith) (started-told src (prefixOf src)))
+answer-told =
+    each-reading NotDone (λ e. omega arith) (λ e. omega arith) (λ e. omega arith) (λ e. omega arith) (λ e. omega arith) (λ e. omega arith) (λ e. omega arith)
+    (λ e. omega arith) tt (λ mode x. tt)
 
 returned : (src codes tail out : List ℕ) (a : Outcome) → Bytes src → readAnswer src (length codes) (length tail) ≡ a → NotDone a → readingOf a .reply ≡ 0
     → readingOf a .next ≤ length out → Returned src codes tail out a
@@ -194,8 +173,3 @@ rows-one-to-one = codebook.one-to-one
 
 pub other-rates-than-1 : (rate : ℕ) → (rate ≡ 1 → ⊥) → (n : ℕ) (v : List ℤ) → (rowPoint rate n ≡ noPoint) × (rowIndex rate v ≡ noRow)
 other-rates-than-1 = codebook.foreign
-
--- ---- Every promise of this library is one equation against a definition, so two results that meet it are equal
-
-pub unique : {A : Type 0} (answer a b : A) → a ≡ answer → b ≡ answer → a ≡ b
-unique answer a b p q = p ∙ sym q

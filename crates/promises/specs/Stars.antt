@@ -16,7 +16,7 @@ use Rattle.prefix.specs.Stars as prefix
 use Rattle.norms.specs.Order.{sent}
 use Rattle.norms.specs.Steps.{numbers}
 use Rattle.norms.specs.Part.{normKinds, normBits}
-use Rattle.weights.specs.Weights.{weightsOf}
+use Rattle.weights.specs.Weights.{weighed}
 use Rattle.weights.proofs.Examples as weights
 use Rattle.allotment.specs.Allotment.{sharesOf}
 use Rattle.allotment.proofs.Examples as allotment
@@ -27,9 +27,10 @@ use Rattle.frame.specs.Answers.{readAnswer, readingOf, stoppedAt}
 use Rattle.writer.specs.Writes.{bytesFor}
 use Rattle.writer.specs.Bodies.{bodyBits, body-is}
 use Rattle.frame.specs.declared.Record.{Record}
-use Rattle.listing.specs.Text.{frameLine, totalLine}
-use Rattle.listing.specs.Listing.{lineOf, lines, listingOf}
-use Rattle.recording.specs.Walk.{storedAt, onward, walk, checkOf}
+use Rattle.listing.specs.Text.{ascii}
+use Rattle.listing.specs.Listing.{listingOf}
+use Rattle.listing.specs.Examples as listing
+use Rattle.recording.specs.Walk.{checkOf}
 use Rattle.recording.specs.Stars as recording
 
 -- all that stands in a list of claims holds
@@ -69,7 +70,9 @@ starred =
     -- File check of 00 20: one sound frame, reply 4 at place 1
     ∷ ((booking : ℕ) → checkOf (0x00 ∷ 0x20 ∷ []) booking ≡ record { reply = 4; count = 1; place = 1 })
     -- The lister ends it with 0001 4 0, total 1 answer 4 at 1
-    ∷ (listingOf (0x00 ∷ 0x20 ∷ []) ≡ frameLine 0 14 0 ++ frameLine 1 4 0 ++ totalLine 1 4 1)
+    ∷ (listingOf (0x00 ∷ 0x20 ∷ []) ≡ ascii "0000 14 0\n0001 4 0\ntotal 1 answer 4 at 1\n")
+    -- and prints of 00 00, whole, which has no star
+    ∷ (listingOf (0x00 ∷ 0x00 ∷ []) ≡ ascii "0000 14 0\n0001 14 0\ntotal 2 answer 0 at 2\n")
     -- Stationary, 80 bytes, all indices 20, FlagN 0, FlagL 1: Ψ 414; rate 2 for band 0, 1 for 1–29, else 0; 6 left
     ∷ (budgetOf 640 (flags false) twenties ≡ 414)
     ∷ (sharesOf false (wideIn 640 true) twenties 414 ≡ record { reply = 0; rates = 2 ∷ replicate 29 1 ++ replicate 14 0; left = 6 })
@@ -77,8 +80,13 @@ starred =
     ∷ (budgetOf 640 (flags true) twenties ≡ 500)
     ∷ (sharesOf false (wideIn 640 true) twenties 500 ≡ record { reply = 0; rates = replicate 34 1 ++ replicate 10 0; left = 4 })
     ∷ ((noise bits : ℕ) (codes tail : List ℕ) → take 5 (drop 1 (bytesFor (small noise bits) codes tail)) ≡ 0x6A ∷ 0x6D ∷ 0xB6 ∷ 0xDB ∷ 0x6D ∷ [])
-    -- Weights, stationary, index 0 in band 0, 20 elsewhere: 0, 12, 25, 38, 51, then 64
-    ∷ (weightsOf false (0 ∷ replicate 43 20) ≡ 0 ∷ 12 ∷ 25 ∷ 38 ∷ 51 ∷ replicate 39 64)
+    -- Weights, stationary, index 0 in band 0, 20 elsewhere: 0, 12, 25, 38, 51, then 64. The scores are 16 × 34, then 16 × 14 and the weight
+    ∷ (weighed false (0 ∷ replicate 43 20)
+    ≡ record {
+      reply = 0;
+      weights = 0 ∷ 12 ∷ 25 ∷ 38 ∷ 51 ∷ replicate 39 64;
+      scores = pos 544 ∷ pos 236 ∷ pos 249 ∷ pos 262 ∷ pos 275 ∷ replicate 39 (pos 288);
+    })
     -- Rate 2, k1 = 1, 2, 3, others 0: points first 2, 4, −2, others 0. k2 = 3 alone: −1, −1, 0 …
     ∷ (pointOf 2 (eight 1 0 0) ≡ record { reply = 0; at = eight (pos 2) (pos 0) (pos 0) })
     ∷ (pointOf 2 (eight 2 0 0) ≡ record { reply = 0; at = eight (pos 4) (pos 0) (pos 0) })
@@ -91,10 +99,6 @@ starred =
 prefix-20 : readingOf (readAnswer (0x20 ∷ []) 800 320) ≡ stoppedAt 4 0
 unfolding readAnswer prefixOf prefixByte tableA2 lengthBytes
 prefix-20 = refl
-
-listed-00-20 : listingOf (0x00 ∷ 0x20 ∷ []) ≡ frameLine 0 14 0 ++ frameLine 1 4 0 ++ totalLine 1 4 1
-unfolding listingOf lines lineOf walk onward storedAt readAnswer prefixOf prefixByte tableA2 lengthBytes
-listed-00-20 = refl
 
 psi-414 : budgetOf 640 (flags false) twenties ≡ 414
 unfolding budgetOf spare word wordOf writeAll coding sent numbers normKinds normBits
@@ -133,7 +137,8 @@ claimed =
     (also prefix.star-6C
     (also prefix.star-70
     (also recording.star-00-20
-    (also listed-00-20
+    (also listing.star-listing-00-20
+    (also listing.listing-00-00
     (also psi-414
     (also (ap (λ (b : Bool). sharesOf false b twenties 414) wide-80 ∙ allotment.starred .0)
     (also psi-500
@@ -143,4 +148,4 @@ claimed =
     (also (lattice.stars .0)
     (also (lattice.stars .1)
     (also (lattice.stars .2)
-    (also (lattice.stars .3) done))))))))))))))))
+    (also (lattice.stars .3) done)))))))))))))))))

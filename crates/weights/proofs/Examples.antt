@@ -10,9 +10,17 @@ use Rattle.weights.specs.Table17.{table17, rowAt, has, seek, rowOf}
 use Rattle.weights.specs.Weights.{loudness, sumOver, spe, bspe, forward, backward, renormed, largest, smallest, mapped, louds, spes, rowWeights, spread, weightsOf, score, scoresOf, weighed}
 use Rattle.ground.specs.Indices.{inRange}
 
--- ★ stationary, index 0 in band 0, 20 elsewhere
-pub starred : weightsOf false (0 ∷ replicate 43 20) ≡ 0 ∷ 12 ∷ 25 ∷ 38 ∷ 51 ∷ replicate 39 64
-unfolding table17 rowAt has seek rowOf loudness sumOver spe bspe forward backward renormed largest smallest mapped louds spes rowWeights spread weightsOf from
+-- ★ stationary, index 0 in band 0, 20 elsewhere, as the call answers it; the scores are 16 × 34 and 16 × 14 with the weights added
+pub starred :
+    weighed false (0 ∷ replicate 43 20)
+    ≡ record {
+      reply = 0;
+      weights = 0 ∷ 12 ∷ 25 ∷ 38 ∷ 51 ∷ replicate 39 64;
+      scores = pos 544 ∷ pos 236 ∷ pos 249 ∷ pos 262 ∷ pos 275 ∷ replicate 39 (pos 288);
+    }
+unfolding
+    table17 rowAt has seek rowOf loudness sumOver spe bspe forward backward renormed largest smallest mapped louds spes rowWeights spread weightsOf score scoresOf
+    inRange weighed from
 starred = refl
 
 -- a transient frame with negative scores, as the call answers it: floored for the rows and again over the four bands
