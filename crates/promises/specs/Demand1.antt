@@ -46,7 +46,7 @@ use Rattle.frame.specs.declared.Reading.{Reading}
 use Rattle.frame.specs.declared.Record.{Record}
 use Rattle.writer.specs.Tests.{quietOf, fits, clear}
 use Rattle.writer.specs.Empty.{emptyReply}
-use Rattle.writer.specs.Parts.{kindsFor, budgetFor, codesLong, startReply, noParts, partsIn, layoutOf}
+use Rattle.writer.specs.Parts.{kindsFor, budgetFor, codesLong, startReply, partsIn, layoutOf}
 use Rattle.writer.specs.Writes.{roomReply, tailReply, writeReply, outAfter}
 use Rattle.writer.specs.Choice.{plain, choiceReply, choiceOf as flagC}
 use Rattle.writer.specs.declared.Parts.{Parts}
@@ -166,19 +166,6 @@ flag-c-number r codes =
 pub layout-number : (r : Record) (codes : List ℕ) → OneOf (0 ∷ 7 ∷ 8 ∷ 9 ∷ 10 ∷ 12 ∷ []) (layoutOf r codes .reply)
 unfolding among
 layout-number r codes = layout-among (0 ∷ 7 ∷ 8 ∷ 9 ∷ 10 ∷ 12 ∷ []) tt tt tt tt tt tt r codes
-
-abbrev Zeros : Parts → Type 0
-Zeros p = (p .reply ≡ 0 → ⊥) → p ≡ noParts (p .reply)
-
--- any reply but 0 has all parts 0
-pub layout-zeros : (r : Record) (codes : List ℕ) → (layoutOf r codes .reply ≡ 0 → ⊥) → layoutOf r codes ≡ noParts (layoutOf r codes .reply)
-unfolding layoutOf partsIn
-layout-zeros r codes =
-    let ks = kindsFor r in
-    let vs = take 800 codes in
-    picked Zeros (eqb (startReply r (length codes)) 0) _ _
-    (picked Zeros (fits (map coding ks) vs) _ _ (picked Zeros (ltb (budgetFor r) (codesLong ks vs)) _ _ (λ n. refl) (λ n. absurd (n refl))) (λ n. refl))
-    (λ n. refl)
 
 -- ---- a recording: 0, 2, 3, 4, 5, 6, 7, 11, 15
 
@@ -342,6 +329,19 @@ flag-n-zeros transient norms = picked ChoiceZeros (eqb (normReply transient norm
 pub flag-c-zeros : (r : Record) (codes : List ℕ) → ChoiceZeros (flagC r codes)
 unfolding flagC
 flag-c-zeros r codes = picked ChoiceZeros (eqb (choiceReply r codes) 0) _ _ (λ n. absurd (n refl)) (λ n. refl)
+
+-- the layout of a record
+abbrev pub PartsZeros : Parts → Type 0
+PartsZeros a = (a .reply ≡ 0 → ⊥) → a ≡ record { reply = a .reply; budget = 0; rates = replicate 44 0; «code_bits» = 0; «tail_bits» = 0 }
+
+pub layout-zeros : (r : Record) (codes : List ℕ) → PartsZeros (layoutOf r codes)
+unfolding layoutOf partsIn
+layout-zeros r codes =
+    let ks = kindsFor r in
+    let vs = take 800 codes in
+    picked PartsZeros (eqb (startReply r (length codes)) 0) _ _
+    (picked PartsZeros (fits (map coding ks) vs) _ _ (picked PartsZeros (ltb (budgetFor r) (codesLong ks vs)) _ _ (λ n. refl) (λ n. absurd (n refl))) (λ n. refl))
+    (λ n. refl)
 
 -- legal norms
 abbrev pub LegalZeros : Legal → Type 0

@@ -19,6 +19,7 @@ use Rattle.codebook.proofs.codebook_index.Reads as codebook-index
 use Rattle.frame.specs.Answers.{readAnswer, readingOf, codesAfter, tailAfter}
 use Rattle.frame.specs.declared.Reading.{Reading}
 use Rattle.frame.proofs.read.Reads as read
+use Rattle.writer.proofs.layout.Reads as layout
 use Rattle.writer.proofs.write.Reads as write
 use Rattle.writer.proofs.write_empty.Reads as write-empty
 use Rattle.writer.proofs.choice.choose_flag_c.Reads as choose-flag-c
@@ -65,6 +66,9 @@ one-choose-flag-n κs given r s rExit sExit p q = unique p q
 
 pub one-choose-flag-c : OneResult choose-flag-c.Post
 one-choose-flag-c κs given r s rExit sExit p q = unique p q
+
+pub one-layout : OneResult layout.Post
+one-layout κs given r s rExit sExit p q = unique p q
 
 pub one-legalise : OneResult legalise.Post
 one-legalise κs given r s rExit sExit p q = unique p q
