@@ -4,9 +4,10 @@
 -- 01's table that each call can answer, and what a refusal leaves.
 -- Assumes nothing.
 use mathlib.Core.Path.{_≡_, refl, sym, ap, subst, _∙_}
-use mathlib.Core.Bool.{Bool, false, cond, _&&_}
-use mathlib.Core.List.{List, [], _∷_, map}
+use mathlib.Core.Bool.{Bool, true, false, cond, _&&_}
+use mathlib.Core.List.{List, [], _∷_, _++_, map}
 use mathlib.Core.Logic.{inl, inr}
+use mathlib.Core.Option.{Option, some, none}
 use Prim.Native.Nat.{ℕ, zero, suc, _+_, _-_, _^_, _≤_, _<_}
 use native.Mathlib.Omega.{arith}
 use lib.Dec.{eqb, ltb, leb}
@@ -18,8 +19,12 @@ use Rattle.ground.specs.Fills.{from}
 use Rattle.ground.specs.Indices.{inRange}
 use Rattle.ground.specs.Replies.{done, outOfRange, farApart, shortRoom, wideCode, pastBudget, wrongTail}
 use Rattle.bits.specs.Bits.{view}
-use Rattle.bits.specs.Codecs.{writeAll}
+use Rattle.bits.specs.Codings.{Coding, fixed, prefix, Answer, got, no, orElse, find, strip, keep, below as belowIn, whole, unword}
 use Rattle.words.specs.Tables.{coding}
+use Rattle.words.specs.Answers.{placed, wordAt, numberOf}
+use Rattle.words.specs.Runs.{passedUp, runReply}
+use Rattle.words.specs.declared.Word.{Word}
+use Rattle.words.specs.declared.Word.the-variants.{At, No}
 use Rattle.prefix.specs.Sizes.{modeBytes}
 use Rattle.prefix.specs.Prefix.{prefixOf, byteOf, readingOf as prefixReading, writingOf as prefixWriting, Reading as PrefixAnswer, Writing as ByteAnswer}
 use Rattle.prefix.specs.declared.Prefix.{Prefix}
@@ -218,6 +223,52 @@ pub byte-number : (b : Byte) → OneOf (0 ∷ 8 ∷ []) (prefixWriting b .reply)
 unfolding among
 byte-number (Is b) = tt
 byte-number OutOfRange = tt
+
+-- ---- a decoded word is a number with its next place (0), or a refusal: 6, 7
+
+abbrev decoding : List ℕ
+decoding = 0 ∷ 6 ∷ 7 ∷ []
+
+abbrev Decodes : Answer ℕ → Type 0
+Decodes a = (at left : ℕ) → OneOf decoding (numberOf (placed at left a))
+
+else-number : (o : Option (List Bool)) (k : ℕ) (g : Answer ℕ) → Decodes g → Decodes (orElse o k g)
+unfolding among
+else-number (some r) k g d = λ at left. tt
+else-number none k g d = d
+
+find-number : (t : List (List Bool)) (k : ℕ) (b : List Bool) → Decodes (find t k b)
+unfolding among find
+find-number [] k b = λ at left. tt
+find-number (w ∷ t) k b = else-number (strip w b) k (find t (suc k) b) (find-number t (suc k) b)
+
+keep-number : (b : Bool) (g : Answer ℕ) → Decodes g → Decodes (keep b g)
+unfolding among
+keep-number true g d = d
+keep-number false g d = λ at left. tt
+
+whole-number : (t : Bool) (n : ℕ) (b : List Bool) → Decodes (whole t n b)
+unfolding among
+whole-number true n b at left = tt
+whole-number false n b at left = tt
+
+below-number : (k : ℕ) (a : Answer ℕ) → Decodes a → Decodes (belowIn k a)
+below-number k (got v r) d = keep-number (ltb v k) (got v r) d
+below-number k (no x) d = d
+
+unword-number : (c : Coding) (b : List Bool) → Decodes (unword c b)
+unfolding unword
+unword-number (fixed n) b = whole-number (leb n (length b)) n b
+unword-number (prefix t u) b = below-number (length t) (find (t ++ u) 0 b) (find-number (t ++ u) 0 b)
+
+pub word-number : (s : List ℕ) (at end kind : ℕ) → OneOf decoding (numberOf (wordAt s at end kind))
+unfolding wordAt
+word-number s at end kind = unword-number (coding kind) (view s at (end - at)) at (end - at)
+
+-- and a run of words passes the refusal up with its number
+pub word-passed : (w : Word) → runReply (passedUp w) ≡ numberOf w
+word-passed (At v next) = refl
+word-passed (No x) = refl
 
 -- ---- norms, weights, shares and points: 0, 8
 
