@@ -699,7 +699,7 @@ typedef struct made {
     g719_parts parts;
     g719_choice choice;
     g719_writing writing;
-    room room;
+    uint8_t out[G719_FRAME_BYTES + EXCESS];
 } made;
 
 static made make_all(g719_record r)
@@ -707,10 +707,10 @@ static made make_all(g719_record r)
     static const uint16_t codes[G719_CODES];
     static const uint8_t tail[G719_TAIL_BYTES];
     made m;
-    m.room = marked_room();
+    memset(m.out, KEPT, sizeof m.out);
     m.parts = g719_layout(r, codes, G719_CODES);
     m.choice = g719_choose_flag_c(r, codes, G719_CODES);
-    m.writing = g719_write(r, codes, G719_CODES, tail, G719_TAIL_BYTES, m.room.out, body_bytes(r.mode) + 1);
+    m.writing = g719_write(r, codes, G719_CODES, tail, G719_TAIL_BYTES, m.out, body_bytes(r.mode) + 1);
     return m;
 }
 
@@ -722,10 +722,10 @@ static made make_frame(g719_record *r, int flag)
     r->tail_bits = g719_layout(*r, codes, G719_CODES).tail_bits;
     made m = make_all(*r);
     CHECK(m.parts.reply == G719_DONE && m.choice.reply == G719_DONE && m.choice.flag <= 1);
-    CHECK(m.writing.reply == G719_DONE && m.writing.next == bytes && (m.room.out[1] >> (7 - flag)) % 2 == *flag_of(r, flag));
-    CHECK(all_bytes(m.room.out + bytes, sizeof m.room.out - bytes, KEPT));
+    CHECK(m.writing.reply == G719_DONE && m.writing.next == bytes && (m.out[1] >> (7 - flag)) % 2 == *flag_of(r, flag));
+    CHECK(all_bytes(m.out + bytes, sizeof m.out - bytes, KEPT));
     room got = marked_room();
-    g719_reading back = g719_read(m.room.out, bytes, got.codes, G719_CODES, got.tail, G719_TAIL_BYTES);
+    g719_reading back = g719_read(m.out, bytes, got.codes, G719_CODES, got.tail, G719_TAIL_BYTES);
     CHECK(back.reply == G719_DONE && same_record(&back.record, r));
     return m;
 }
@@ -742,7 +742,7 @@ static void flag_values(uint8_t mode, uint8_t others, int flag)
             made m = make_all(r);
             CHECK(same_parts(&m.parts, &as.parts) && m.choice.reply == as.choice.reply && m.choice.flag == as.choice.flag);
             CHECK(m.writing.reply == as.writing.reply && m.writing.next == as.writing.next);
-            CHECK(memcmp(&m.room, &as.room, sizeof m.room) == 0);
+            CHECK(memcmp(m.out, as.out, sizeof m.out) == 0);
         }
     }
 }
