@@ -25,19 +25,20 @@
  *   - A pointer must be aligned as C asks of its type: uint16_t to an even address.
  *   - A slice that is written must not overlap any other slice of the same call. Slices that are only read may overlap.
  *   - A parameter such as `const uint8_t norms[44]` is a pointer to that many elements, which must be there: never NULL.
- *   - A bool holds 0 or 1 and nothing else, in a struct too. A struct that was filled byte by byte must see to that.
  * The library keeps no pointer after the call.
+ *
+ * FLAGS are numbers. One that comes in, as an argument or in a struct, is true unless it is 0; one that goes out is 0 or 1.
  *
  * RANGES. A mode is 0 to 19 and names a body of 80 to 320 bytes (Table 22). The field L of a prefix byte is another number for the
  * same size: mode = L - 8. A norm index is 0 to 39, smaller is louder; norms stand in band order, lowest band first. Codes are 800
- * numbers, one for each coefficient, in band order: by the band's rate 0 nothing, 1 one index of 8 bits in the first of each eight
- * places, 2 to 9 a number of that many bits in each place; unused places are 0. The tail is 320 bytes, its bits from the top of the
- * first byte on, the rest 0. Places and next places count bytes from the start of the slice lent.
+ * numbers, one for each coefficient, in band order: bands 0 to 15 have 8 places each, 16 to 23 16, 24 to 35 24 and 36 to 43 32. By
+ * the band's rate: 0 nothing, 1 one index of 8 bits in the first of each eight places, 2 to 9 a number of that many bits in each
+ * place; unused places are 0. The tail is 320 bytes, its bits from the top of the first byte on, the rest 0. Places and next places
+ * count bytes from the start of the slice lent.
  */
 #ifndef G719_H
 #define G719_H
 
-#include <stdbool.h>
 #include <stddef.h>
 #include <stdint.h>
 
@@ -100,10 +101,10 @@ g719_byte g719_write_prefix(uint8_t mode);
 /* A frame, beside its 800 codes and 320 tail bytes. */
 typedef struct g719_record {
     uint8_t mode;      /* 0 to 19 */
-    bool transient;    /* IsTransient */
-    bool flag_l;       /* at 80 bytes: bands 36 to 43 compete for bits */
-    bool flag_n;       /* norm differences are sent as words of Table 16 */
-    bool flag_c;       /* codes at rates 2 to 5 are sent as words of Table 20 */
+    uint8_t transient; /* flag: IsTransient */
+    uint8_t flag_l;    /* flag: at 80 bytes, bands 36 to 43 compete for bits */
+    uint8_t flag_n;    /* flag: norm differences are sent as words of Table 16 */
+    uint8_t flag_c;    /* flag: codes at rates 2 to 5 are sent as words of Table 20 */
     uint8_t norms[44]; /* in band order */
     uint8_t noise;     /* 0 to 3; 0 in a transient frame */
     uint16_t tail_bits;
@@ -120,16 +121,30 @@ typedef struct g719_writing {
     size_t next; /* bytes written */
 } g719_writing;
 
+typedef struct g719_parts {
+    uint8_t reply;
+    uint16_t budget;    /* bits for codes and tail: code_bits + tail_bits */
+    uint8_t rates[44];  /* 0 to 9: how the codes of each band are held (RANGES) */
+    uint16_t code_bits; /* that the codes take, as flag_c says they are sent */
+    uint16_t tail_bits; /* that are left for the tail */
+} g719_parts;
+
 /* Reads the stored frame at the start of src; what follows it is not looked at. With 0 the first 800 codes and the first 320 tail
  * bytes are filled. Replies: 10, 1, 2, 3, 14, 4, 5, then 6 or 7, whichever is met first in reading, 0. */
 g719_reading g719_read(const uint8_t *src, size_t src_count, uint16_t *codes, size_t codes_count, uint8_t *tail, size_t tail_count);
 
 /* Writes a record as a stored frame; with 0 the first body bytes + 1 bytes of out are filled. What was read with 0 is written with
- * 0, to the same bytes with R 0, and what was written with 0 is read with 0, to the same record. Of codes and tail the first 800
- * numbers and 320 bytes are looked at. Replies: 8 for the mode, 10 (800 numbers, 320 bytes, body bytes + 1), 8 for noise, an index
- * over 39 or a first index over 31, 9, 12, 7, 13, 0. */
+ * 0, to the same bytes with R 0, and what was written with 0 is read with 0, to the same record, its flags as 0 or 1. Of codes and
+ * tail the first 800 numbers and 320 bytes are looked at. Replies: 8 for the mode, 10 (800 numbers, 320 bytes, body bytes + 1), 8 for
+ * noise, an index over 39 or a first index over 31, 9, 12, 7, 13, 0. */
 g719_writing g719_write(g719_record record, const uint16_t *codes, size_t codes_count, const uint8_t *tail, size_t tail_count,
                         uint8_t *out, size_t out_count);
+
+/* How the bits of a record's frame part. Who has read a frame takes its rates from here, to tell codes from unused places and to map
+ * the codes to points; who is to write one takes tail_bits from here, the only count that g719_write accepts. Of codes the first 800
+ * numbers are looked at; the record's noise and tail_bits are not. Replies: 8 for the mode, 10 for under 800 numbers, 8 for an index
+ * over 39 or a first one over 31, 9, 12, 7, 0. */
+g719_parts g719_layout(g719_record record, const uint16_t *codes, size_t codes_count);
 
 /* Writes an empty frame, one byte 00. Replies: 10 for no room, 0. */
 g719_writing g719_write_empty(uint8_t *out, size_t out_count);
@@ -138,7 +153,7 @@ g719_writing g719_write_empty(uint8_t *out, size_t out_count);
 
 typedef struct g719_choice {
     uint8_t reply;
-    bool flag;
+    uint8_t flag; /* 0 or 1 */
 } g719_choice;
 
 typedef struct g719_norms {
@@ -148,14 +163,14 @@ typedef struct g719_norms {
 
 /* FlagN: whether the 43 words of the differences are shorter than 43 fixed codes. Replies: 8 for an index over 39 or a first one
  * over 31, 9, 0. */
-g719_choice g719_choose_flag_n(bool transient, const uint8_t norms[44]);
+g719_choice g719_choose_flag_n(uint8_t transient, const uint8_t norms[44]);
 
 /* FlagC: whether words cost less than fixed codes over the bands at rates 2 to 5. Of the record noise, tail_bits and flag_c are not
  * looked at. Replies: 8 for the mode, 10 for under 800 numbers, 8 for an index over 39 or a first one over 31, 9, 12, 0. */
 g719_choice g719_choose_flag_c(g719_record record, const uint16_t *codes, size_t codes_count);
 
 /* The greatest norms, nowhere above the given ones, that a frame of this kind can carry. Replies: 8 for an index over 39, 0. */
-g719_norms g719_legalise(bool transient, const uint8_t norms[44]);
+g719_norms g719_legalise(uint8_t transient, const uint8_t norms[44]);
 
 /* ---- Sharing the bits */
 
@@ -172,10 +187,10 @@ typedef struct g719_shares {
 } g719_shares;
 
 /* Weights and starting scores. Replies: 8 for an index over 39, 0. */
-g719_weights g719_weigh(bool transient, const uint8_t norms[44]);
+g719_weights g719_weigh(uint8_t transient, const uint8_t norms[44]);
 
 /* Rates and bits left; wide says whether bands 36 to 43 compete. Replies: 8 for an index over 39 or a budget over 2,560, 0. */
-g719_shares g719_allot(bool transient, bool wide, const uint8_t norms[44], uint32_t budget);
+g719_shares g719_allot(uint8_t transient, uint8_t wide, const uint8_t norms[44], uint32_t budget);
 
 /* ---- Points: the lattice at rates 2 to 9, the codebook at rate 1 */
 

@@ -1,7 +1,8 @@
-//! The fifteen calls as one table, so that a test can run both sides.
+//! The sixteen calls as one table, so that a test can run both sides.
 
 use crate::types::{
-    Byte, Check, Choice, Index, Norms, Point, Prefix, Reading, Record, Row, Shares, Weights, Writing, BANDS,
+    Byte, Check, Choice, Index, Norms, Parts, Point, Prefix, Reading, Record, Row, Shares, Weights, Writing,
+    BANDS,
 };
 use crate::{library, reference};
 
@@ -12,6 +13,7 @@ pub struct Calls {
     pub write_prefix: fn(u8) -> Byte,
     pub read: fn(&[u8], &mut [u16], &mut [u8]) -> Reading,
     pub write: fn(&Record, &[u16], &[u8], &mut [u8]) -> Writing,
+    pub layout: fn(&Record, &[u16]) -> Parts,
     pub write_empty: fn(&mut [u8]) -> Writing,
     pub choose_flag_n: fn(bool, &[u8; BANDS]) -> Choice,
     pub choose_flag_c: fn(&Record, &[u16]) -> Choice,
@@ -33,6 +35,7 @@ macro_rules! calls_of {
             write_prefix: $side::write_prefix,
             read: $side::read,
             write: $side::write,
+            layout: $side::layout,
             write_empty: $side::write_empty,
             choose_flag_n: $side::choose_flag_n,
             choose_flag_c: $side::choose_flag_c,

@@ -16,7 +16,7 @@ pub use points::{
     LatticePointCase, PointCase,
 };
 pub use recordings::{check_case, CheckCase};
-pub use writes::{empty_case, flag_c_case, write_case, FlagCCase, WriteCase};
+pub use writes::{empty_case, flag_c_case, layout_case, write_case, CodesCase, WriteCase};
 
 use crate::random::Random;
 

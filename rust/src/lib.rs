@@ -6,6 +6,7 @@ pub mod calls;
 pub mod cases;
 pub mod library;
 pub mod random;
+pub mod raw;
 pub mod reference;
 pub mod types;
 

@@ -1,5 +1,5 @@
-//! The answers of the calls, laid out as in C. Every `reply` is a number of
-//! the paper's table.
+//! The answers of the calls. Every `reply` is a number of the paper's table.
+//! What has no flag is laid out as in C, where flags are numbers (`raw`).
 
 /// Bands of a frame.
 pub const BANDS: usize = 44;
@@ -27,7 +27,6 @@ pub struct Byte {
 }
 
 /// What a frame holds beside its codes and its tail; norms in band order.
-#[repr(C)]
 #[derive(Clone, Copy, Debug, PartialEq, Eq)]
 pub struct Record {
     pub mode: u8,
@@ -41,7 +40,6 @@ pub struct Record {
 }
 
 /// A frame that was read, and the place after it.
-#[repr(C)]
 #[derive(Clone, Copy, Debug, PartialEq, Eq)]
 pub struct Reading {
     pub reply: u8,
@@ -57,8 +55,19 @@ pub struct Writing {
     pub next: usize,
 }
 
-/// A chosen FlagN or FlagC.
+/// How the bits of a record's frame part: the budget, the rates by which the
+/// codes are read and written, the bits of the codes and those of the tail.
 #[repr(C)]
+#[derive(Clone, Copy, Debug, PartialEq, Eq)]
+pub struct Parts {
+    pub reply: u8,
+    pub budget: u16,
+    pub rates: [u8; BANDS],
+    pub code_bits: u16,
+    pub tail_bits: u16,
+}
+
+/// A chosen FlagN or FlagC.
 #[derive(Clone, Copy, Debug, PartialEq, Eq)]
 pub struct Choice {
     pub reply: u8,

@@ -7,7 +7,7 @@ use g719::random::Random;
 use std::collections::BTreeMap;
 use std::fmt::Debug;
 
-/// Cases of the frame reader and of the frame writer.
+/// Cases of the frame reader, the frame writer and the layout.
 const FRAMES: u64 = 150_000;
 /// Cases of each other call on records, norms or points.
 const OTHERS: u64 = 40_000;
@@ -15,7 +15,7 @@ const OTHERS: u64 = 40_000;
 const FILES: u64 = 10_000;
 const BYTES: u64 = 5_000;
 
-const _: () = assert!(2 * FRAMES + 9 * OTHERS + FILES + 2 * BYTES >= 200_000);
+const _: () = assert!(3 * FRAMES + 9 * OTHERS + FILES + 2 * BYTES >= 200_000);
 
 /// Lent memory: content between sentinels that no call may touch.
 #[derive(Debug, PartialEq)]
@@ -83,6 +83,16 @@ fn write() {
         let mut out = Lent::new(&case.out);
         let writing = (calls.write)(&case.record, codes.lend(), tail.lend(), out.lend());
         (writing.reply, (writing, codes, tail, out))
+    });
+}
+
+#[test]
+fn layout() {
+    let replies = [0, 7, 8, 9, 10, 12];
+    compare("layout", &replies, FRAMES, cases::layout_case, |calls, case| {
+        let mut codes = Lent::new(&case.codes);
+        let parts = (calls.layout)(&case.record, codes.lend());
+        (parts.reply, (parts, codes))
     });
 }
 

@@ -1,7 +1,7 @@
 //! The examples that need whole frames, on both sides.
 
 use g719::calls::{Calls, SIDES};
-use g719::types::Record;
+use g719::types::{Parts, Record};
 
 /// Stationary, 80 bytes, all indices 20, FlagL 1.
 fn record(flag_n: bool, tail_bits: u16) -> Record {
@@ -39,6 +39,58 @@ fn all_indices_20(calls: &Calls) {
     }
     let choice = (calls.choose_flag_n)(false, &[20; 44]);
     assert_eq!((choice.reply, choice.flag), (0, true));
+}
+
+fn layout_of_all_indices_20(calls: &Calls) {
+    for (flag_n, budget, tail_bits) in [(false, 414, 6), (true, 500, 4)] {
+        let parts = (calls.layout)(&record(flag_n, 0), &[0; 800]);
+        let rates = std::array::from_fn(|band| match band {
+            0 if !flag_n => 2,
+            _ => u8::from(band < if flag_n { 34 } else { 30 }),
+        });
+        let wanted = Parts {
+            reply: 0,
+            budget,
+            rates,
+            code_bits: budget - tail_bits,
+            tail_bits,
+        };
+        assert_eq!(parts, wanted);
+    }
+    // Eight words of one bit for eight codes of two leave eight bits more.
+    let words = Record {
+        flag_c: true,
+        ..record(false, 0)
+    };
+    let parts = (calls.layout)(&words, &[0; 800]);
+    assert_eq!((parts.budget, parts.code_bits, parts.tail_bits), (414, 400, 14));
+}
+
+/// A record that comes to be wrong in all ways, one after the other.
+fn order_of_the_layout(calls: &Calls) {
+    let mut faulty = Record {
+        flag_c: true,
+        noise: 255,
+        ..record(false, u16::MAX)
+    };
+    let mut codes = [0; 801];
+    codes[800] = u16::MAX;
+    let reply = |record: &Record, codes: &[u16]| (calls.layout)(record, codes).reply;
+    assert_eq!(reply(&faulty, &codes), 0);
+    codes[..8].fill(2);
+    assert_eq!(reply(&faulty, &codes), 7);
+    codes[1] = 4;
+    assert_eq!(reply(&faulty, &codes), 12);
+    faulty.norms[5] = 3;
+    assert_eq!(reply(&faulty, &codes), 9);
+    faulty.norms[43] = 40;
+    assert_eq!(reply(&faulty, &codes), 8);
+    faulty.norms[43] = 20;
+    faulty.norms[0] = 32;
+    assert_eq!(reply(&faulty, &codes), 8);
+    assert_eq!(reply(&faulty, &codes[..799]), 10);
+    faulty.mode = 20;
+    assert_eq!(reply(&faulty, &[]), 8);
 }
 
 fn rooms_come_before_bytes(calls: &Calls) {
@@ -91,6 +143,8 @@ fn examples() {
     for calls in SIDES {
         prefix_20_alone(calls);
         all_indices_20(calls);
+        layout_of_all_indices_20(calls);
+        order_of_the_layout(calls);
         rooms_come_before_bytes(calls);
         order_of_the_writer(calls);
         equal_cost_chooses_fixed_codes(calls);

@@ -49,6 +49,31 @@ fn sound_answers_are_many() {
     assert!(tails.len() == 9);
 }
 
+/// Records are laid out in every mode, kind and setting of the flags, with
+/// any noise and tail count, some of them without a bit left.
+#[test]
+fn layouts_of_all_kinds() {
+    let mut kinds = BTreeSet::new();
+    let (mut whole, mut unread) = (0, 0);
+    for seed in 0..CASES {
+        let case = cases::layout_case(seed);
+        let (record, parts) = (case.record, reference::layout(&case.record, &case.codes));
+        if parts.reply == 0 {
+            kinds.insert((
+                record.mode,
+                record.transient,
+                record.flag_l,
+                record.flag_n,
+                record.flag_c,
+            ));
+            whole += u32::from(parts.tail_bits == 0);
+            unread += u32::from(record.noise > 3 && record.tail_bits != parts.tail_bits);
+        }
+    }
+    assert_eq!(kinds.len(), 20 * 16);
+    assert!(whole > 100 && unread > 1000);
+}
+
 /// Sound frames are read in every mode, kind and setting of the flags.
 #[test]
 fn sound_frames_of_all_kinds() {

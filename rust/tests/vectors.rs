@@ -107,6 +107,10 @@ fn read() {
         };
         let (mut codes, mut tail) = (room(codes_count, &[]), room(tail_count, &[]));
         assert_eq!((calls.read)(&src, &mut codes, &mut tail), wanted);
+        if wanted.reply == 0 {
+            let parts = (calls.layout)(&wanted.record, &codes);
+            assert_eq!((parts.reply, parts.tail_bits), (0, wanted.record.tail_bits));
+        }
         assert_eq!(codes, room(codes_count, &line.numbers()));
         assert_eq!(tail, room(tail_count, &line.bytes()));
     });

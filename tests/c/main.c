@@ -1,7 +1,9 @@
-/* Calls every function of include/g719.h: layout of each struct, the paper's examples, every reply, what a refusal leaves alone, and
- * frames written, read and written again. Prints how many checks passed; ends with 1 at the first that does not. */
+/* Calls every function of include/g719.h: layout of each struct, the paper's examples, every reply, what a refusal leaves alone,
+ * frames written, read, laid out and written again, and every value of every flag. Prints how many checks passed; ends with 1 at the
+ * first that does not. */
 #include "g719.h"
 
+#include <stdbool.h>
 #include <stdio.h>
 #include <stdlib.h>
 #include <string.h>
@@ -58,6 +60,12 @@ static bool same_record(const g719_record *a, const g719_record *b)
         && a->tail_bits == b->tail_bits;
 }
 
+static bool same_parts(const g719_parts *a, const g719_parts *b)
+{
+    return a->reply == b->reply && a->budget == b->budget && memcmp(a->rates, b->rates, sizeof a->rates) == 0
+        && a->code_bits == b->code_bits && a->tail_bits == b->tail_bits;
+}
+
 static bool no_record(const g719_record *a)
 {
     g719_record none;
@@ -80,28 +88,29 @@ static size_t body_bytes(uint8_t mode)
 }
 
 /* 01's example: stationary, 80 bytes, all indices 20, FlagL 1. */
-static g719_record example(bool flag_n)
+static g719_record example(uint8_t flag_n)
 {
     g719_record r;
     memset(&r, 0, sizeof r);
-    r.flag_l = true;
+    r.flag_l = 1;
     r.flag_n = flag_n;
     memset(r.norms, 20, sizeof r.norms);
     r.tail_bits = flag_n ? 4 : 6;
     return r;
 }
 
-/* ---- layout */
+/* ---- layout of the structs */
 
 #define FIELD(type, field, offset, bytes) \
     CHECK(offsetof(type, field) == (offset) && sizeof(((type *)0)->field) == (bytes))
 
-static void layout(void)
+static void structs(void)
 {
     CHECK(sizeof(g719_prefix) == 6 && sizeof(g719_byte) == 2 && sizeof(g719_record) == 52);
     CHECK(sizeof(g719_reading) == 72 && sizeof(g719_writing) == 16 && sizeof(g719_choice) == 2);
     CHECK(sizeof(g719_norms) == 45 && sizeof(g719_weights) == 134 && sizeof(g719_shares) == 48);
     CHECK(sizeof(g719_point) == 18 && sizeof(g719_index) == 18 && sizeof(g719_row) == 2 && sizeof(g719_check) == 16);
+    CHECK(sizeof(g719_parts) == 52);
     FIELD(g719_prefix, length, 1, 1);
     FIELD(g719_prefix, bytes, 2, 2);
     FIELD(g719_prefix, next, 4, 1);
@@ -117,6 +126,10 @@ static void layout(void)
     FIELD(g719_reading, next, 8, 8);
     FIELD(g719_reading, record, 16, 52);
     FIELD(g719_writing, next, 8, 8);
+    FIELD(g719_parts, budget, 2, 2);
+    FIELD(g719_parts, rates, 4, 44);
+    FIELD(g719_parts, code_bits, 48, 2);
+    FIELD(g719_parts, tail_bits, 50, 2);
     FIELD(g719_choice, flag, 1, 1);
     FIELD(g719_norms, norms, 1, 44);
     FIELD(g719_weights, weights, 1, 44);
@@ -171,25 +184,25 @@ static void flag_n(void)
 {
     uint8_t norms[G719_BANDS];
     memset(norms, 20, sizeof norms);
-    g719_choice c = g719_choose_flag_n(false, norms);
-    CHECK(c.reply == G719_DONE && c.flag);
+    g719_choice c = g719_choose_flag_n(0, norms);
+    CHECK(c.reply == G719_DONE && c.flag == 1);
     for (int b = 0; b < G719_BANDS; b++)
         norms[b] = b % 2 ? 15 : 0;
-    c = g719_choose_flag_n(false, norms);
-    CHECK(c.reply == G719_DONE && !c.flag);
+    c = g719_choose_flag_n(0, norms);
+    CHECK(c.reply == G719_DONE && c.flag == 0);
     norms[43] = 16;
-    CHECK(g719_choose_flag_n(false, norms).reply == G719_DONE);
+    CHECK(g719_choose_flag_n(0, norms).reply == G719_DONE);
     norms[43] = 17;
-    c = g719_choose_flag_n(false, norms);
-    CHECK(c.reply == G719_FAR_APART && !c.flag);
+    c = g719_choose_flag_n(0, norms);
+    CHECK(c.reply == G719_FAR_APART && c.flag == 0);
     norms[43] = 15;
     norms[41] = 16;
-    CHECK(g719_choose_flag_n(false, norms).reply == G719_FAR_APART);
+    CHECK(g719_choose_flag_n(0, norms).reply == G719_FAR_APART);
     norms[0] = 32;
-    CHECK(g719_choose_flag_n(false, norms).reply == G719_OUT_OF_RANGE);
+    CHECK(g719_choose_flag_n(0, norms).reply == G719_OUT_OF_RANGE);
     norms[0] = 0;
     norms[43] = 40;
-    CHECK(g719_choose_flag_n(true, norms).reply == G719_OUT_OF_RANGE);
+    CHECK(g719_choose_flag_n(1, norms).reply == G719_OUT_OF_RANGE);
 }
 
 static void legal_norms(void)
@@ -197,17 +210,17 @@ static void legal_norms(void)
     uint8_t norms[G719_BANDS];
     memset(norms, 39, sizeof norms);
     norms[1] = 0;
-    g719_norms n = g719_legalise(false, norms);
+    g719_norms n = g719_legalise(0, norms);
     CHECK(n.reply == G719_DONE && n.norms[0] == 15 && n.norms[1] == 0 && n.norms[2] == 16 && n.norms[3] == 32);
     CHECK(all_bytes(n.norms + 4, 40, 39));
-    n = g719_legalise(true, norms);
+    n = g719_legalise(1, norms);
     CHECK(n.reply == G719_DONE && n.norms[0] == 15 && n.norms[1] == 0 && n.norms[8] == 16 && n.norms[9] == 32);
     CHECK(all_bytes(n.norms + 2, 6, 39) && all_bytes(n.norms + 10, 34, 39));
     memset(norms, 35, sizeof norms);
-    n = g719_legalise(false, norms);
+    n = g719_legalise(0, norms);
     CHECK(n.reply == G719_DONE && n.norms[0] == 31 && all_bytes(n.norms + 1, 43, 35));
     norms[43] = 40;
-    n = g719_legalise(false, norms);
+    n = g719_legalise(0, norms);
     CHECK(n.reply == G719_OUT_OF_RANGE && all_bytes(n.norms, 44, 0));
 }
 
@@ -219,16 +232,16 @@ static void weights(void)
     uint8_t norms[G719_BANDS];
     memset(norms, 20, sizeof norms);
     norms[0] = 0;
-    g719_weights w = g719_weigh(false, norms);
+    g719_weights w = g719_weigh(0, norms);
     CHECK(w.reply == G719_DONE && memcmp(w.weights, front, 5) == 0 && all_bytes(w.weights + 5, 39, 64));
     CHECK(w.scores[0] == 544 && w.scores[1] == 236 && w.scores[43] == 288);
     memset(norms, 39, sizeof norms);
-    CHECK(g719_weigh(false, norms).scores[0] == -80);
-    w = g719_weigh(true, norms);
+    CHECK(g719_weigh(0, norms).scores[0] == -80);
+    w = g719_weigh(1, norms);
     for (int b = 0; b < G719_BANDS; b++)
         CHECK(w.reply == G719_DONE && w.weights[b] <= 64 && w.scores[b] == w.weights[b] - 80);
     norms[7] = 40;
-    w = g719_weigh(false, norms);
+    w = g719_weigh(0, norms);
     CHECK(w.reply == G719_OUT_OF_RANGE && all_bytes(w.weights, sizeof w.weights, 0) && all_bytes(w.scores, sizeof w.scores, 0));
 }
 
@@ -236,19 +249,19 @@ static void shares(void)
 {
     uint8_t norms[G719_BANDS];
     memset(norms, 20, sizeof norms);
-    g719_shares s = g719_allot(false, true, norms, 414);
+    g719_shares s = g719_allot(0, 1, norms, 414);
     CHECK(s.reply == G719_DONE && s.rates[0] == 2 && all_bytes(s.rates + 1, 29, 1) && all_bytes(s.rates + 30, 14, 0) && s.left == 6);
-    s = g719_allot(false, true, norms, 500);
+    s = g719_allot(0, 1, norms, 500);
     CHECK(s.reply == G719_DONE && all_bytes(s.rates, 34, 1) && all_bytes(s.rates + 34, 10, 0) && s.left == 4);
-    s = g719_allot(true, false, norms, G719_MOST_BUDGET);
+    s = g719_allot(1, 0, norms, G719_MOST_BUDGET);
     CHECK(s.reply == G719_DONE && s.rates[35] > 0 && all_bytes(s.rates + 36, 8, 0));
-    s = g719_allot(false, true, norms, G719_MOST_BUDGET);
+    s = g719_allot(0, 1, norms, G719_MOST_BUDGET);
     CHECK(s.reply == G719_DONE && s.rates[43] > 0);
-    s = g719_allot(false, true, norms, G719_MOST_BUDGET + 1);
+    s = g719_allot(0, 1, norms, G719_MOST_BUDGET + 1);
     CHECK(s.reply == G719_OUT_OF_RANGE && all_bytes(s.rates, 44, 0) && s.left == 0);
-    CHECK(g719_allot(false, true, norms, UINT32_MAX).reply == G719_OUT_OF_RANGE);
+    CHECK(g719_allot(0, 1, norms, UINT32_MAX).reply == G719_OUT_OF_RANGE);
     norms[0] = 40;
-    CHECK(g719_allot(false, true, norms, 414).reply == G719_OUT_OF_RANGE);
+    CHECK(g719_allot(0, 1, norms, 414).reply == G719_OUT_OF_RANGE);
 }
 
 /* ---- points */
@@ -320,7 +333,37 @@ static void read_as(const uint8_t *src, size_t count, const g719_record *record,
     CHECK(all_bytes(got.codes + G719_CODES, 2 * EXCESS, KEPT) && all_bytes(got.tail + G719_TAIL_BYTES, EXCESS, KEPT));
 }
 
-/* Writes a record that must be written, reads the bytes, and writes what was read. */
+/* Sees that a record with these codes and a tail of zeros is written with this tail count alone, among some. */
+static void written_alone(g719_record record, const uint16_t *codes, uint16_t tail_bits)
+{
+    static const uint8_t zeros[G719_TAIL_BYTES];
+    const uint16_t counts[6] = { tail_bits, (uint16_t)(tail_bits - 1), (uint16_t)(tail_bits + 1), 0, 2560, 65535 };
+    for (int i = 0; i < 6; i++) {
+        uint8_t out[G719_FRAME_BYTES];
+        record.tail_bits = counts[i];
+        g719_writing w = g719_write(record, codes, G719_CODES, zeros, G719_TAIL_BYTES, out, sizeof out);
+        CHECK(w.reply == (counts[i] == tail_bits ? G719_DONE : G719_WRONG_TAIL));
+    }
+}
+
+/* Sees that a sound record parts as it should: its own tail count, the rates of its budget, whatever noise and tail count say. */
+static void laid_out(const g719_record *record, const uint16_t *codes)
+{
+    g719_parts p = g719_layout(*record, codes, G719_CODES);
+    CHECK(p.reply == G719_DONE && p.budget == p.code_bits + p.tail_bits && p.tail_bits == record->tail_bits);
+    CHECK(record->flag_n || p.budget == 8 * body_bytes(record->mode) - 224 - (record->transient ? 0 : 2));
+    g719_shares s = g719_allot(record->transient, record->mode > 0 || record->flag_l, record->norms, p.budget);
+    CHECK(s.reply == G719_DONE && memcmp(p.rates, s.rates, sizeof p.rates) == 0);
+    CHECK(record->flag_c || p.tail_bits == s.left);
+    g719_record other = *record;
+    other.noise = (uint8_t)drawn(256);
+    other.tail_bits = (uint16_t)drawn(65536);
+    g719_parts q = g719_layout(other, codes, G719_CODES);
+    CHECK(same_parts(&p, &q));
+    written_alone(*record, codes, p.tail_bits);
+}
+
+/* Writes a record that must be written, reads the bytes, lays out what was read and writes it. */
 static void there_and_back(const g719_record *record, const uint16_t *codes, const uint8_t *tail)
 {
     size_t bytes = body_bytes(record->mode) + 1;
@@ -331,6 +374,7 @@ static void there_and_back(const g719_record *record, const uint16_t *codes, con
     read_as(made.out, bytes, record, codes, tail);
     made.out[0] |= 3;
     read_as(made.out, sizeof made.out, record, codes, tail);
+    laid_out(record, codes);
     g719_check c = g719_check_file(made.out, bytes, 1);
     CHECK(c.reply == G719_DONE && c.count == 1 && c.place == bytes);
     c = g719_check_file(made.out, bytes - 1, 1);
@@ -340,7 +384,7 @@ static void there_and_back(const g719_record *record, const uint16_t *codes, con
 static void frame_example(void)
 {
     static const uint8_t begin[6] = { 0x20, 0x6A, 0x6D, 0xB6, 0xDB, 0x6D };
-    g719_record r = example(true);
+    g719_record r = example(1);
     r.noise = 2;
     uint16_t codes[G719_CODES] = { 0 };
     uint8_t tail[G719_TAIL_BYTES] = { 0xB0 };
@@ -382,8 +426,8 @@ static g719_record draw_record(uint8_t mode, uint16_t codes[G719_CODES], uint8_t
     g719_record r;
     memset(&r, 0, sizeof r);
     r.mode = mode;
-    r.transient = drawn(2);
-    r.flag_l = drawn(2);
+    r.transient = (uint8_t)drawn(2);
+    r.flag_l = (uint8_t)drawn(2);
     r.noise = r.transient ? 0 : (uint8_t)drawn(4);
     for (int b = 0; b < G719_BANDS; b++)
         r.norms[b] = (uint8_t)drawn(40);
@@ -405,16 +449,14 @@ static void flags(void)
     static const uint16_t codes[G719_CODES];
     static const uint8_t tail[G719_TAIL_BYTES];
     for (int flag = 0; flag < 4; flag++) {
-        g719_record r = example(false);
+        g719_record r = example(0);
         r.transient = flag == 0;
         r.flag_l = flag == 1;
         r.flag_n = flag == 2;
         r.flag_c = flag == 3;
+        r.tail_bits = g719_layout(r, codes, G719_CODES).tail_bits;
         uint8_t out[81];
-        g719_writing w;
-        r.tail_bits = 0;
-        while (w = g719_write(r, codes, G719_CODES, tail, G719_TAIL_BYTES, out, sizeof out), w.reply == G719_WRONG_TAIL)
-            r.tail_bits++;
+        g719_writing w = g719_write(r, codes, G719_CODES, tail, G719_TAIL_BYTES, out, sizeof out);
         CHECK(w.reply == G719_DONE && out[1] >> 4 == 8 >> flag);
         there_and_back(&r, codes, tail);
     }
@@ -442,12 +484,12 @@ static void read_refused(uint8_t reply, size_t next, const uint8_t *src, size_t 
 /* Norms for which band 0 has rate 5 in an 80-byte stationary frame with FlagN 0. */
 static g719_record five_bits(void)
 {
-    g719_record r = example(false);
-    r.flag_c = true;
+    g719_record r = example(0);
+    r.flag_c = 1;
     g719_shares s;
     do {
         r.norms[0]--;
-        s = g719_allot(false, true, r.norms, 414);
+        s = g719_allot(0, 1, r.norms, 414);
     } while (s.rates[0] != 5);
     return r;
 }
@@ -479,11 +521,9 @@ static void refused_words(void)
     g719_record r = five_bits();
     uint16_t codes[G719_CODES] = { 0 };
     uint8_t tail[G719_TAIL_BYTES] = { 0 };
+    r.tail_bits = g719_layout(r, codes, G719_CODES).tail_bits;
     uint8_t out[81];
-    g719_writing w;
-    r.tail_bits = 0;
-    while (w = g719_write(r, codes, G719_CODES, tail, G719_TAIL_BYTES, out, sizeof out), w.reply == G719_WRONG_TAIL)
-        r.tail_bits++;
+    g719_writing w = g719_write(r, codes, G719_CODES, tail, G719_TAIL_BYTES, out, sizeof out);
     CHECK(w.reply == G719_DONE && r.tail_bits > 6);
     there_and_back(&r, codes, tail);
     out[29] = 0xFC;
@@ -505,7 +545,7 @@ static void refused_records(void)
 {
     uint16_t codes[G719_CODES] = { 0 };
     uint8_t tail[G719_TAIL_BYTES] = { 0 };
-    g719_record r = example(true);
+    g719_record r = example(1);
     write_refused(G719_SHORT_ROOM, r, codes, 799, tail, 320, 81);
     write_refused(G719_SHORT_ROOM, r, codes, 800, tail, 319, 81);
     write_refused(G719_SHORT_ROOM, r, codes, 800, tail, 320, 80);
@@ -513,18 +553,18 @@ static void refused_records(void)
     CHECK(g719_write(r, codes, 800, tail, 320, NULL, 0).reply == G719_SHORT_ROOM);
     r.mode = 20;
     write_refused(G719_OUT_OF_RANGE, r, NULL, 0, NULL, 0, 0);
-    r = example(true);
+    r = example(1);
     r.noise = 4;
     write_refused(G719_OUT_OF_RANGE, r, codes, 800, tail, 320, 81);
     r.noise = 1;
-    r.transient = true;
+    r.transient = 1;
     write_refused(G719_OUT_OF_RANGE, r, codes, 800, tail, 320, 81);
-    r = example(true);
+    r = example(1);
     r.norms[43] = 40;
     write_refused(G719_OUT_OF_RANGE, r, codes, 800, tail, 320, 81);
     r.norms[43] = 37;
     write_refused(G719_FAR_APART, r, codes, 800, tail, 320, 81);
-    r = example(true);
+    r = example(1);
     r.tail_bits = 5;
     write_refused(G719_WRONG_TAIL, r, codes, 800, tail, 320, 81);
     r.tail_bits = 4;
@@ -535,6 +575,63 @@ static void refused_records(void)
     codes[0] = 0;
     codes[1] = 1;
     write_refused(G719_WIDE_CODE, r, codes, 800, tail, 320, 81);
+}
+
+/* ---- how a record's bits part */
+
+/* 01's example with FlagN 0, which leaves 6 bits; only that tail count is written, of all. */
+static void layout_example(void)
+{
+    static const uint16_t codes[G719_CODES + 1] = { [G719_CODES] = 65535 };
+    static const uint8_t tail[G719_TAIL_BYTES];
+    g719_record r = example(0);
+    g719_parts p = g719_layout(r, codes, G719_CODES + 1);
+    CHECK(p.reply == G719_DONE && p.budget == 414 && p.code_bits == 408 && p.tail_bits == 6);
+    CHECK(p.rates[0] == 2 && all_bytes(p.rates + 1, 29, 1) && all_bytes(p.rates + 30, 14, 0));
+    for (uint16_t count = 0; count <= G719_MOST_BUDGET; count++) {
+        uint8_t out[81];
+        r.tail_bits = count;
+        CHECK((g719_write(r, codes, G719_CODES, tail, G719_TAIL_BYTES, out, sizeof out).reply == G719_DONE) == (count == 6));
+    }
+    r.flag_c = 1;
+    p = g719_layout(r, codes, G719_CODES);
+    CHECK(p.reply == G719_DONE && p.budget == 414 && p.code_bits == 400 && p.tail_bits == 14 && p.rates[0] == 2);
+}
+
+static bool unlaid(g719_record r, const uint16_t *codes, size_t codes_count, uint8_t reply)
+{
+    g719_parts none;
+    memset(&none, 0, sizeof none);
+    none.reply = reply;
+    g719_parts p = g719_layout(r, codes, codes_count);
+    return same_parts(&p, &none);
+}
+
+/* A record that comes to be wrong in all ways: what stands first in the list is told. */
+static void refused_layouts(void)
+{
+    g719_record r = five_bits();
+    uint16_t codes[G719_CODES] = { 0 };
+    for (int i = 0; i < 8; i++)
+        codes[i] = 16;
+    CHECK(unlaid(r, codes, G719_CODES, G719_PAST_BUDGET));
+    codes[0] = 32;
+    CHECK(unlaid(r, codes, G719_CODES, G719_WIDE_CODE));
+    codes[0] = 16;
+    codes[799] = 1;
+    CHECK(unlaid(r, codes, G719_CODES, G719_WIDE_CODE));
+    r.norms[43] = 37;
+    CHECK(unlaid(r, codes, G719_CODES, G719_FAR_APART));
+    r.norms[42] = 40;
+    CHECK(unlaid(r, codes, G719_CODES, G719_OUT_OF_RANGE));
+    r.norms[42] = 20;
+    r.norms[0] = 32;
+    CHECK(unlaid(r, codes, G719_CODES, G719_OUT_OF_RANGE));
+    CHECK(unlaid(r, codes, G719_CODES - 1, G719_SHORT_ROOM));
+    CHECK(unlaid(r, NULL, 0, G719_SHORT_ROOM));
+    r.mode = 20;
+    CHECK(unlaid(r, codes, G719_CODES, G719_OUT_OF_RANGE));
+    CHECK(unlaid(r, NULL, 0, G719_OUT_OF_RANGE));
 }
 
 static void empty_frames(void)
@@ -553,20 +650,20 @@ static void flag_c(void)
     g719_record r = five_bits();
     uint16_t codes[G719_CODES] = { 0 };
     g719_choice c = g719_choose_flag_c(r, codes, G719_CODES);
-    CHECK(c.reply == G719_DONE && c.flag);
+    CHECK(c.reply == G719_DONE && c.flag == 1);
     for (int i = 0; i < 8; i++)
         codes[i] = 16;
     r.noise = 200;
     r.tail_bits = 60000;
     c = g719_choose_flag_c(r, codes, G719_CODES);
-    CHECK(c.reply == G719_DONE && !c.flag);
+    CHECK(c.reply == G719_DONE && c.flag == 0);
     uint8_t tail[G719_TAIL_BYTES] = { 0 };
     r.noise = 0;
     r.tail_bits = 0;
     write_refused(G719_PAST_BUDGET, r, codes, 800, tail, 320, 81);
     codes[0] = 32;
     c = g719_choose_flag_c(r, codes, G719_CODES);
-    CHECK(c.reply == G719_WIDE_CODE && !c.flag);
+    CHECK(c.reply == G719_WIDE_CODE && c.flag == 0);
     r.norms[43] = 37;
     CHECK(g719_choose_flag_c(r, codes, G719_CODES).reply == G719_FAR_APART);
     r.norms[43] = 40;
@@ -575,6 +672,165 @@ static void flag_c(void)
     CHECK(g719_choose_flag_c(r, NULL, 0).reply == G719_SHORT_ROOM);
     r.mode = 20;
     CHECK(g719_choose_flag_c(r, NULL, 0).reply == G719_OUT_OF_RANGE);
+}
+
+/* ---- every value of every flag */
+
+/* Norms that differ by no more than 14, so that they can be sent in both orders. */
+static g719_record near_norms(uint8_t mode, uint8_t others)
+{
+    g719_record r;
+    memset(&r, 0, sizeof r);
+    r.mode = mode;
+    r.transient = r.flag_l = r.flag_n = r.flag_c = others;
+    for (int b = 0; b < G719_BANDS; b++)
+        r.norms[b] = (uint8_t)(10 + drawn(15));
+    return r;
+}
+
+static uint8_t *flag_of(g719_record *r, int flag)
+{
+    uint8_t *const flags[4] = { &r->transient, &r->flag_l, &r->flag_n, &r->flag_c };
+    return flags[flag];
+}
+
+/* What the calls on a record make of it. Behind the lent part of out its bytes must stay. */
+typedef struct made {
+    g719_parts parts;
+    g719_choice choice;
+    g719_writing writing;
+    uint8_t out[G719_FRAME_BYTES + EXCESS];
+} made;
+
+static made make_all(g719_record r)
+{
+    static const uint16_t codes[G719_CODES];
+    static const uint8_t tail[G719_TAIL_BYTES];
+    made m;
+    memset(m.out, KEPT, sizeof m.out);
+    m.parts = g719_layout(r, codes, G719_CODES);
+    m.choice = g719_choose_flag_c(r, codes, G719_CODES);
+    m.writing = g719_write(r, codes, G719_CODES, tail, G719_TAIL_BYTES, m.out, body_bytes(r.mode) + 1);
+    return m;
+}
+
+/* What a flag of 0 or 1 makes: a frame, whose flag is read as that number. */
+static made make_frame(g719_record *r, int flag)
+{
+    static const uint16_t codes[G719_CODES];
+    size_t bytes = body_bytes(r->mode) + 1;
+    r->tail_bits = g719_layout(*r, codes, G719_CODES).tail_bits;
+    made m = make_all(*r);
+    CHECK(m.parts.reply == G719_DONE && m.choice.reply == G719_DONE && m.choice.flag <= 1);
+    CHECK(m.writing.reply == G719_DONE && m.writing.next == bytes && (m.out[1] >> (7 - flag)) % 2 == *flag_of(r, flag));
+    CHECK(all_bytes(m.out + bytes, sizeof m.out - bytes, KEPT));
+    room got = marked_room();
+    g719_reading back = g719_read(m.out, bytes, got.codes, G719_CODES, got.tail, G719_TAIL_BYTES);
+    CHECK(back.reply == G719_DONE && same_record(&back.record, r));
+    return m;
+}
+
+/* A flag of a record: every number but 0 makes what 1 makes. */
+static void flag_values(uint8_t mode, uint8_t others, int flag)
+{
+    g719_record r = near_norms(mode, others);
+    for (unsigned is = 0; is < 2; is++) {
+        *flag_of(&r, flag) = (uint8_t)is;
+        made as = make_frame(&r, flag);
+        for (unsigned value = is; value <= 255 * is; value++) {
+            *flag_of(&r, flag) = (uint8_t)value;
+            made m = make_all(r);
+            CHECK(same_parts(&m.parts, &as.parts) && m.choice.reply == as.choice.reply && m.choice.flag == as.choice.flag);
+            CHECK(m.writing.reply == as.writing.reply && m.writing.next == as.writing.next);
+            CHECK(memcmp(m.out, as.out, sizeof m.out) == 0);
+        }
+    }
+}
+
+static void record_flags(void)
+{
+    for (int flag = 0; flag < 4; flag++)
+        for (uint8_t others = 0; others < 2; others++) {
+            flag_values(0, others, flag);
+            flag_values(19, others, flag);
+        }
+}
+
+/* A record whose codes fit with this flag and, being of other rates, not without: the first of 100 that is so. */
+static g719_record telling_record(int flag, uint16_t codes[G719_CODES])
+{
+    static const uint16_t zeros[G719_CODES];
+    g719_record r;
+    for (int turn = 0; turn < 100; turn++) {
+        r = near_norms(0, 0);
+        *flag_of(&r, flag) = 1;
+        draw_codes(g719_layout(r, zeros, G719_CODES).rates, codes);
+        *flag_of(&r, flag) = 0;
+        if (g719_choose_flag_c(r, codes, G719_CODES).reply == G719_WIDE_CODE)
+            break;
+    }
+    return r;
+}
+
+/* The choice of FlagC, which looks at all flags but FlagC. */
+static void choice_flags(void)
+{
+    for (int flag = 0; flag < 4; flag++) {
+        uint16_t codes[G719_CODES] = { 0 };
+        g719_record r = flag < 3 ? telling_record(flag, codes) : near_norms(0, 0);
+        g719_choice as[2];
+        for (unsigned value = 0; value < 256; value++) {
+            *flag_of(&r, flag) = (uint8_t)value;
+            g719_choice c = g719_choose_flag_c(r, codes, G719_CODES);
+            if (value < 2)
+                as[value] = c;
+            CHECK(c.flag <= 1 && c.reply == as[value != 0].reply && c.flag == as[value != 0].flag);
+        }
+        CHECK(as[1].reply == G719_DONE && (as[0].reply == G719_DONE) == (flag == 3) && (flag < 3 || as[0].flag == as[1].flag));
+    }
+}
+
+/* The argument transient of the calls on norms, for which 0 and 1 are answered differently. */
+static void norm_arguments(void)
+{
+    uint8_t norms[G719_BANDS], steep[G719_BANDS];
+    for (int b = 0; b < G719_BANDS; b++) {
+        norms[b] = b % 2 ? 15 : 0;
+        steep[b] = b == 1 ? 0 : 39;
+    }
+    const g719_choice choices[2] = { g719_choose_flag_n(0, norms), g719_choose_flag_n(1, norms) };
+    const g719_norms legal[2] = { g719_legalise(0, steep), g719_legalise(1, steep) };
+    const g719_weights weights[2] = { g719_weigh(0, steep), g719_weigh(1, steep) };
+    CHECK(choices[0].flag == 0 && choices[1].flag == 1);
+    CHECK(memcmp(legal[0].norms, legal[1].norms, 44) != 0 && memcmp(weights[0].weights, weights[1].weights, 44) != 0);
+    for (unsigned value = 0; value < 256; value++) {
+        unsigned is = value != 0;
+        g719_choice c = g719_choose_flag_n((uint8_t)value, norms);
+        CHECK(c.reply == G719_DONE && c.flag == choices[is].flag);
+        g719_norms n = g719_legalise((uint8_t)value, steep);
+        CHECK(n.reply == G719_DONE && memcmp(n.norms, legal[is].norms, sizeof n.norms) == 0);
+        g719_weights w = g719_weigh((uint8_t)value, steep);
+        CHECK(w.reply == G719_DONE && memcmp(w.weights, weights[is].weights, sizeof w.weights) == 0);
+        CHECK(memcmp(w.scores, weights[is].scores, sizeof w.scores) == 0);
+    }
+}
+
+/* Every pair of transient and wide. */
+static void allot_arguments(void)
+{
+    g719_record r = near_norms(0, 0);
+    g719_shares shares[2][2];
+    for (unsigned t = 0; t < 2; t++)
+        for (unsigned w = 0; w < 2; w++)
+            shares[t][w] = g719_allot((uint8_t)t, (uint8_t)w, r.norms, 2000);
+    CHECK(memcmp(shares[0][0].rates, shares[0][1].rates, 44) != 0 && memcmp(shares[1][0].rates, shares[1][1].rates, 44) != 0);
+    CHECK(memcmp(shares[0][0].rates, shares[1][0].rates, 44) != 0 && memcmp(shares[0][1].rates, shares[1][1].rates, 44) != 0);
+    for (unsigned t = 0; t < 256; t++)
+        for (unsigned w = 0; w < 256; w++) {
+            g719_shares s = g719_allot((uint8_t)t, (uint8_t)w, r.norms, 2000);
+            const g719_shares *as = &shares[t != 0][w != 0];
+            CHECK(s.reply == G719_DONE && memcmp(s.rates, as->rates, sizeof s.rates) == 0 && s.left == as->left);
+        }
 }
 
 /* ---- recordings */
@@ -613,7 +869,7 @@ static void recordings(void)
 
 int main(void)
 {
-    layout();
+    structs();
     prefix_read();
     prefix_written();
     flag_n();
@@ -629,8 +885,14 @@ int main(void)
     refused_frames();
     refused_words();
     refused_records();
+    layout_example();
+    refused_layouts();
     empty_frames();
     flag_c();
+    record_flags();
+    choice_flags();
+    norm_arguments();
+    allot_arguments();
     recordings();
     printf("%d\n", checks);
     return 0;

@@ -4,6 +4,7 @@
 #include "g719.h"
 
 #include <pthread.h>
+#include <stdbool.h>
 #include <stdio.h>
 #include <stdlib.h>
 #include <string.h>
@@ -25,12 +26,13 @@ static void read_prefix(void) { reply = g719_read_prefix(frame, sizeof frame).re
 static void write_prefix(void) { reply = g719_write_prefix(19).reply; }
 static void read(void) { reply = g719_read(frame, sizeof frame, codes, G719_CODES, tail, G719_TAIL_BYTES).reply; }
 static void write(void) { reply = g719_write(record, codes, G719_CODES, tail, G719_TAIL_BYTES, frame, sizeof frame).reply; }
+static void layout(void) { reply = g719_layout(record, codes, G719_CODES).reply; }
 static void write_empty(void) { uint8_t out; reply = g719_write_empty(&out, 1).reply; }
-static void choose_flag_n(void) { reply = g719_choose_flag_n(true, record.norms).reply; }
+static void choose_flag_n(void) { reply = g719_choose_flag_n(1, record.norms).reply; }
 static void choose_flag_c(void) { reply = g719_choose_flag_c(record, codes, G719_CODES).reply; }
-static void legalise(void) { reply = g719_legalise(true, record.norms).reply; }
-static void weigh(void) { reply = g719_weigh(true, record.norms).reply; }
-static void allot(void) { reply = g719_allot(true, true, record.norms, G719_MOST_BUDGET).reply; }
+static void legalise(void) { reply = g719_legalise(1, record.norms).reply; }
+static void weigh(void) { reply = g719_weigh(1, record.norms).reply; }
+static void allot(void) { reply = g719_allot(1, 1, record.norms, G719_MOST_BUDGET).reply; }
 static void lattice_point(void) { reply = g719_lattice_point(4, index).reply; }
 static void lattice_index(void) { reply = g719_lattice_index(4, point).reply; }
 static void codebook_point(void) { reply = g719_codebook_point(1, 255).reply; }
@@ -42,10 +44,11 @@ static const struct {
     void (*call)(void);
 } calls[] = {
     { "read_prefix", read_prefix },       { "write_prefix", write_prefix },     { "read", read },
-    { "write", write },                   { "write_empty", write_empty },       { "choose_flag_n", choose_flag_n },
-    { "choose_flag_c", choose_flag_c },   { "legalise", legalise },             { "weigh", weigh },
-    { "allot", allot },                   { "lattice_point", lattice_point },   { "lattice_index", lattice_index },
-    { "codebook_point", codebook_point }, { "codebook_index", codebook_index }, { "check_file", check_file },
+    { "write", write },                   { "layout", layout },                 { "write_empty", write_empty },
+    { "choose_flag_n", choose_flag_n },   { "choose_flag_c", choose_flag_c },   { "legalise", legalise },
+    { "weigh", weigh },                   { "allot", allot },                   { "lattice_point", lattice_point },
+    { "lattice_index", lattice_index },   { "codebook_point", codebook_point }, { "codebook_index", codebook_index },
+    { "check_file", check_file },
 };
 
 static void *measure(void *failed)
@@ -69,16 +72,11 @@ static void *measure(void *failed)
 static bool prepare(void)
 {
     record.mode = 19;
-    record.flag_c = true;
+    record.flag_c = 1;
     memset(record.norms, 20, sizeof record.norms);
     memcpy(point, g719_codebook_point(1, 200).at, sizeof point);
-    g719_writing w;
-    do {
-        w = g719_write(record, codes, G719_CODES, tail, G719_TAIL_BYTES, frame, sizeof frame);
-        record.tail_bits++;
-    } while (w.reply == G719_WRONG_TAIL);
-    record.tail_bits--;
-    return w.reply == G719_DONE;
+    record.tail_bits = g719_layout(record, codes, G719_CODES).tail_bits;
+    return g719_write(record, codes, G719_CODES, tail, G719_TAIL_BYTES, frame, sizeof frame).reply == G719_DONE;
 }
 
 int main(void)

@@ -144,6 +144,7 @@ fn compare_frame_calls(frames: &[Frame]) {
     let mut out = [0; 321];
     compare!("read", frames, frame => read(&frame.bytes, &mut codes, &mut tail));
     compare!("write", frames, frame => write(&frame.record, &frame.codes, &frame.tail, &mut out));
+    compare!("layout", frames, frame => layout(&frame.record, &frame.codes));
     compare!("choose_flag_c", frames, frame => choose_flag_c(&frame.record, &frame.codes));
     compare!("read_prefix", frames, frame => read_prefix(&frame.bytes));
     compare!("write_prefix", frames, frame => write_prefix(frame.record.mode));

@@ -1,5 +1,5 @@
-//! Records for the frame writer and the FlagC choice, and room for the empty
-//! frame.
+//! Records for the frame writer, the layout and the FlagC choice, and room for
+//! the empty frame.
 
 use super::records::{band_of, sound, tune, Sound};
 use super::room;
@@ -17,9 +17,9 @@ pub struct WriteCase {
     pub out: Vec<u8>,
 }
 
-/// Input of the FlagC choice.
+/// Input of the layout and of the FlagC choice.
 #[derive(Clone, Debug)]
-pub struct FlagCCase {
+pub struct CodesCase {
     pub record: Record,
     pub codes: Vec<u16>,
 }
@@ -204,31 +204,48 @@ pub fn write_case(seed: u64) -> WriteCase {
 }
 
 /// Codes whose words cost nearly as much as fixed codes.
-fn balanced(random: &mut Random) -> FlagCCase {
+fn balanced(random: &mut Random) -> CodesCase {
     let mut sound = sound(random);
     let rates = sound.plan.rates;
     let fixed = i64::from(code_bits(&rates, false, &sound.codes));
     let target = fixed + i64::from(random.between(-2, 2));
     tune(random, &rates, &mut sound.codes, COEFFICIENTS, target);
-    FlagCCase {
+    CodesCase {
         record: sound.record,
         codes: sound.codes.to_vec(),
     }
 }
 
-pub fn flag_c_case(seed: u64) -> FlagCCase {
+/// Noise and tail count of no meaning, for a call that does not read them.
+fn fill_unread(random: &mut Random, record: &mut Record) {
+    record.noise = random.next() as u8;
+    record.tail_bits = random.next() as u16;
+}
+
+pub fn flag_c_case(seed: u64) -> CodesCase {
     let mut random = Random::new(seed);
     let mut case = if random.once_in(3) {
         balanced(&mut random)
     } else {
         let WriteCase { record, codes, .. } = write_case(random.next());
-        FlagCCase { record, codes }
+        CodesCase { record, codes }
     };
     if random.once_in(3) {
-        case.record.noise = random.next() as u8;
-        case.record.tail_bits = random.next() as u16;
+        fill_unread(&mut random, &mut case.record);
     }
     case
+}
+
+/// Half of the layout's cases have any noise and any tail count.
+pub fn layout_case(seed: u64) -> CodesCase {
+    let mut random = Random::new(seed);
+    let WriteCase {
+        mut record, codes, ..
+    } = write_case(random.next());
+    if random.flag() {
+        fill_unread(&mut random, &mut record);
+    }
+    CodesCase { record, codes }
 }
 
 /// Room for an empty frame.

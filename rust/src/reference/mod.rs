@@ -24,4 +24,4 @@ pub use prefix::{read_prefix, write_prefix};
 pub use reader::read;
 pub use recording::{check_file, list};
 pub use weights::weigh;
-pub use writer::{choose_flag_c, write, write_empty};
+pub use writer::{choose_flag_c, layout, write, write_empty};

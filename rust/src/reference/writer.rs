@@ -1,4 +1,4 @@
-//! Writing a stored frame, and the FlagC choice.
+//! Writing a stored frame, how its bits part, and the FlagC choice.
 
 use super::allotment::share;
 use super::bits::BitWriter;
@@ -7,7 +7,7 @@ use super::codes::{check_codes, code_bits, put_codes, Codes, Rates};
 use super::norms::{norm_bits, put_norms, steps, Steps};
 use super::prefix::{frame_bytes, write_prefix};
 use super::reply;
-use crate::types::{Choice, Record, Writing, COEFFICIENTS, TAIL_BYTES};
+use crate::types::{Choice, Parts, Record, Writing, BANDS, COEFFICIENTS, TAIL_BYTES};
 
 /// What follows from a record's mode, flags and norms.
 pub(crate) struct Plan {
@@ -115,12 +115,45 @@ pub fn write_empty(out: &mut [u8]) -> Writing {
     }
 }
 
-/// Whether words cost less than fixed codes.
-fn words_cost_less(record: &Record, codes: &[u16]) -> Result<bool, u8> {
+/// The plan of a record and its codes, which fit it; or 8 for the mode, 10,
+/// the other causes of 8, 9, 12.
+fn fitting<'a>(record: &Record, codes: &'a [u16]) -> Result<(Plan, &'a Codes), u8> {
     frame_bytes(record.mode)?;
     let codes = codes.first_chunk::<COEFFICIENTS>().ok_or(reply::ROOM_SHORT)?;
     let plan = plan(record)?;
     check_codes(&plan.rates, codes)?;
+    Ok((plan, codes))
+}
+
+/// The parts of the budget: what the codes take, and the rest.
+fn parts(record: &Record, codes: &[u16]) -> Result<Parts, u8> {
+    let (plan, codes) = fitting(record, codes)?;
+    let used = code_bits(&plan.rates, record.flag_c, codes);
+    let left = plan.budget.checked_sub(used).ok_or(reply::PAST_BUDGET)?;
+    Ok(Parts {
+        reply: reply::DONE,
+        budget: plan.budget as u16,
+        rates: plan.rates,
+        code_bits: used as u16,
+        tail_bits: left as u16,
+    })
+}
+
+/// How the bits of a record's frame part. The record's noise and tail count
+/// are not read.
+pub fn layout(record: &Record, codes: &[u16]) -> Parts {
+    parts(record, codes).unwrap_or_else(|reply| Parts {
+        reply,
+        budget: 0,
+        rates: [0; BANDS],
+        code_bits: 0,
+        tail_bits: 0,
+    })
+}
+
+/// Whether words cost less than fixed codes.
+fn words_cost_less(record: &Record, codes: &[u16]) -> Result<bool, u8> {
+    let (plan, codes) = fitting(record, codes)?;
     // Bands outside rates 2–5 cost the same on both sides.
     let in_words = code_bits(&plan.rates, true, codes);
     let fixed = code_bits(&plan.rates, false, codes);
