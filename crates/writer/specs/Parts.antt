@@ -22,7 +22,6 @@ use Rattle.frame.specs.declared.Record.{Record}
 use Rattle.writer.specs.Tests.{fits}
 use Rattle.writer.specs.declared.Plan.{Plan}
 use Rattle.writer.specs.declared.Parts.{Parts}
-use Rattle.writer.specs.declared.Spread.{Spread}
 
 -- ---- what a record's flags and norms say of its frame
 
@@ -186,6 +185,10 @@ module _ (r : Record) (cs : List ℕ) (x : ℕ) (ex : x ≡ startReply r (length
   unfolding layoutOf
   layout-parts z = rw (← ex, eq-eqb x 0 z)
 
+  pub layout-planned : x ≡ 0 → (p : Plan) → p ≡ planOf r → partsIn (p .budget) (p .rates) (p .kinds) (take 800 cs) ≡ layoutOf r cs
+  unfolding planOf
+  layout-planned z p e = ap (λ (y : Plan). partsIn (y .budget) (y .rates) (y .kinds) (take 800 cs)) e ∙ layout-parts z
+
 -- what a layout of reply 0 tells
 pub record Laid (r : Record) (cs : List ℕ) : Type 0 where
   pub start : Started r (length cs)
@@ -207,20 +210,3 @@ laid-told r cs e =
     let p = parts-told (budgetFor r) (ratesFor r) (kindsFor r) (take 800 cs) (ap (λ (x : Parts). x .reply) (layout-parts r cs s refl z) ∙ e) in
     record { start = started r (length cs) z; fit = p .0; paid = p .1 })
     (λ t. let n = eqb-false s 0 t in absurd (n (ap (λ (x : Parts). x .reply) (layout-start r cs s refl n) ∙ e)))
-
--- a layout with its kinds beside it
-pub record SpreadOf (r : Record) (cs : List ℕ) (s : Spread) : Type 0 where
-  pub parts : s .parts ≡ layoutOf r cs
-  pub kinds : s .parts .reply ≡ 0 → s .kinds ≡ kindsFor r
-
-module _ (r : Record) (cs : List ℕ) (x : ℕ) (ex : x ≡ startReply r (length cs)) (q : Parts) where
-  pub spread-refused : (x ≡ 0 → ⊥) → q ≡ noParts x → (ks : List ℕ) → SpreadOf r cs (record { parts = q; kinds = ks })
-  spread-refused n e ks = record { parts = e ∙ layout-start r cs x ex n; kinds = λ z. absurd (n (sym (ap (λ (y : Parts). y .reply) e) ∙ z)) }
-
-  pub spread-made : x ≡ 0 → (p : Plan) → p ≡ planOf r → q ≡ partsIn (p .budget) (p .rates) (p .kinds) (take 800 cs) → SpreadOf r cs (record { parts = q; kinds = p .kinds })
-  unfolding planOf
-  spread-made z p ep e =
-      record {
-        parts = e ∙ ap (λ (y : Plan). partsIn (y .budget) (y .rates) (y .kinds) (take 800 cs)) ep ∙ layout-parts r cs x ex z;
-        kinds = λ w. planned r p ep .kinds;
-      }

@@ -16,7 +16,7 @@ use Rattle.prefix.specs.Prefix.{byteWith}
 use Rattle.frame.specs.Layout.{Frame, frame}
 use Rattle.frame.specs.declared.Record.{Record}
 use Rattle.writer.specs.Tests.{quietOf, clear}
-use Rattle.writer.specs.Parts.{flagBits, total, firstOf, layoutOf}
+use Rattle.writer.specs.Parts.{flagBits, total, firstOf, startReply, layoutOf, layout-start}
 use Rattle.writer.specs.declared.Parts.{Parts}
 use Rattle.writer.specs.declared.Writing.{Writing}
 
@@ -125,6 +125,13 @@ module _ (p : Parts) (ts : List ℕ) (count : ℕ) where
 pub reply-early : (r : Record) (cs ts : List ℕ) (room x : ℕ) → x ≡ roomReply r (length cs) (length ts) room → (x ≡ 0 → ⊥) → x ≡ writeReply r cs ts room
 unfolding writeReply
 reply-early r cs ts room x e n = rw (← e, ne-eqb x 0 n)
+
+pub reply-start : (r : Record) (cs ts : List ℕ) (room x y : ℕ) → x ≡ roomReply r (length cs) (length ts) room → x ≡ 0
+    → y ≡ startReply r (length cs) → (y ≡ 0 → ⊥) → y ≡ writeReply r cs ts room
+unfolding writeReply
+reply-start r cs ts room x y e n ey ny =
+    let l : y ≡ layoutOf r cs .reply = ap (λ (p : Parts). p .reply) (layout-start r cs y ey ny) in
+    rw (← e, eq-eqb x 0 n) (l ∙ late-refused (layoutOf r cs) ts (r .«tail_bits») (λ z. ny (l ∙ z)))
 
 pub reply-late : (r : Record) (cs ts : List ℕ) (room x y : ℕ) → x ≡ roomReply r (length cs) (length ts) room → x ≡ 0
     → y ≡ lateReply (layoutOf r cs) ts (r .«tail_bits») → y ≡ writeReply r cs ts room

@@ -7,7 +7,7 @@ ghost use Rattle.bits.specs.Bits.{view, laid, word, num};
 ghost use Rattle.words.specs.Tables.{coding};
 ghost use Rattle.writer.specs.Tests.{quietOf, fits, clear};
 ghost use Rattle.writer.specs.Empty.{emptyReply, emptyAfter};
-ghost use Rattle.writer.specs.Parts.{flagBits, kindsFor, planOf, startReply, noParts, partsIn, layoutOf, SpreadOf};
+ghost use Rattle.writer.specs.Parts.{flagBits, kindsFor, planOf, startReply, noParts, partsIn, layoutOf};
 ghost use Rattle.writer.specs.Writes.{roomReply, lateReply, writeReply, writingOf, outAfter};
 ghost use Rattle.writer.specs.Bodies.{bodyBits};
 ghost use Rattle.frame.specs.Answers.{flagsOf};
@@ -47,12 +47,6 @@ pub struct Parts {
     pub rates: [u8; 44],
     pub code_bits: u16,
     pub tail_bits: u16,
-}
-
-// The parts of a frame, and the kinds of its 800 places.
-pub struct Spread {
-    pub parts: Parts,
-    pub kinds: [u8; 800],
 }
 
 // Whether the noise is one that the kind of frame has: 0 to 3, and 0 in a transient frame.
@@ -242,30 +236,18 @@ fn parts_in(budget: usize, rates: [u8; 44], kinds: &[u8], numbers: &[u16]) -> Pa
     }
 }
 
-// The layout of a record; where it is refused, the kinds are of no use.
-fn spread_of(r: Record, codes: &[u16]) -> Spread
-    ensures { λ s. ⌜ SpreadOf r (now (codes .entry)) s ⌝ }
-{
-    let start = start_reply(r, codes.len());
-    if start != DONE {
-        return Spread {
-            parts: no_parts(start),
-            kinds: [0u8; 800],
-        };
-    }
-    let plan = plan_of(r);
-    let rates = plan.rates;
-    let kinds = plan.kinds;
-    let parts = parts_in(plan.budget, rates, &kinds, &codes[..800]);
-    Spread { parts, kinds }
-}
-
 // How a record's bits part: as the FlagC choice 8 for the mode, 10, the other causes of 8, 9, 12; then 7. Noise and tail are not looked at.
 pub fn layout(r: Record, codes: &[u16]) -> Parts
     ensures { λ p. ⌜ p ≡ layoutOf r (now (codes .entry)) ⌝ }
 {
-    let spread = spread_of(r, codes);
-    spread.parts
+    let start = start_reply(r, codes.len());
+    if start != DONE {
+        return no_parts(start);
+    }
+    let plan = plan_of(r);
+    let rates = plan.rates;
+    let kinds = plan.kinds;
+    parts_in(plan.budget, rates, &kinds, &codes[..800])
 }
 
 // What the layout says, then 13 for the tail, else 0.
@@ -327,8 +309,15 @@ pub fn write(r: Record, codes: &[u16], tail: &[u8], out: &mut [u8]) -> Writing
     if early != DONE {
         return refusal(early);
     }
-    let spread = spread_of(r, codes);
-    let parts = spread.parts;
+    let start = start_reply(r, codes.len());
+    if start != DONE {
+        return refusal(start);
+    }
+    let plan = plan_of(r);
+    let rates = plan.rates;
+    let kinds = plan.kinds;
+    let numbers = &codes[..800];
+    let parts = parts_in(plan.budget, rates, &kinds, numbers);
     let late = late_reply(parts, tail, r.tail_bits);
     if late != DONE {
         return refusal(late);
@@ -338,9 +327,8 @@ pub fn write(r: Record, codes: &[u16], tail: &[u8], out: &mut [u8]) -> Writing
         return refusal(OUT_OF_RANGE);
     };
     let n = wide(Mode(r.mode).bytes());
-    let kinds = spread.kinds;
     out[0] = first;
-    write_body(r, &kinds, &codes[..800], tail, out);
+    write_body(r, &kinds, numbers, tail, out);
     Writing {
         reply: DONE,
         next: n + 1,

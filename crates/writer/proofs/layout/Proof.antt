@@ -1,14 +1,13 @@
--- `writer::spread_of` meets its contract: the start's refusal, or the parts by the plan. Assumes nothing.
+-- `writer::layout` meets its contract: the start's refusal, or the parts by the plan. Assumes nothing.
 use mathlib.Core.Path.{_≡_, sym, _∙_}
 use native.Mathlib.Omega.{arith}
-use Prim.Native.Nat.{_≤_}
 use denote.Ref.{now}
 use lib.ListN.{length, take}
 use lib.Seq.{length-take-le}
-use Rattle.writer.specs.Parts.{started, Planned, planned, budget-small, spread-refused, spread-made}
+use Rattle.writer.specs.Parts.{started, Planned, planned, budget-small, layout-start, layout-planned}
 use borrow.Author.Needs.{needs}
-use Rattle.writer.proofs.spread_of.Statement.{statement}
-use Rattle.writer.proofs.spread_of.Tie as tie
+use Rattle.writer.proofs.layout.Statement.{statement}
+use Rattle.writer.proofs.layout.Tie as tie
 
 -- a start of 0 had 800 numbers
 eight-hundred : (d : tie.Else1) → let a : tie.Start = search in length (take 800 (now (a .args .codes))) ≡ 800
@@ -24,7 +23,7 @@ returns : tie.Need-returns
 returns c =
     let s : tie.After-start-reply = search in
     let e : tie.Then1 = search in
-    spread-refused _ _ _ (s .start-reply .ensures) _ (e .if1 .taken) (c .no-parts .ensures) _
+    c .no-parts .ensures ∙ layout-start _ _ _ (s .start-reply .ensures) (e .if1 .taken)
 
 parts-in-requires : tie.Need-parts-in-requires
 parts-in-requires c κs =
@@ -38,10 +37,10 @@ returns-2 c =
     let p : tie.After-plan-of = search in
     let e : tie.Else1 = search in
     let s : tie.After-start-reply = search in
-    spread-made _ _ _ (s .start-reply .ensures) _ (e .if1 .left) _ (p .plan-of .ensures) (c .parts-in .ensures)
+    c .parts-in .ensures ∙ layout-planned _ _ _ (s .start-reply .ensures) (e .if1 .left) _ (p .plan-of .ensures)
 
-pub spread-of-spec : {M : Type 1} → statement M
-spread-of-spec =
+pub layout-spec : {M : Type 1} → statement M
+layout-spec =
     tie.close
     (tie.spec
     (λ c κs. search needs)
