@@ -1,5 +1,5 @@
 -- `g719::record_in` meets its contract: flag by flag. Assumes nothing.
-use Rattle.g719.specs.Flags.{made-in}
+use Rattle.g719.proofs.Flags.{made-in}
 use borrow.Author.Needs.{needs}
 use Rattle.g719.proofs.record_in.Statement.{statement}
 use Rattle.g719.proofs.record_in.Tie as tie

@@ -1,5 +1,5 @@
 -- `g719::record_out` meets its contract: flag by flag. Assumes nothing.
-use Rattle.g719.specs.Flags.{made-out}
+use Rattle.g719.proofs.Flags.{made-out}
 use borrow.Author.Needs.{needs}
 use Rattle.g719.proofs.record_out.Statement.{statement}
 use Rattle.g719.proofs.record_out.Tie as tie
