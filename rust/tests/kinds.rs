@@ -1,10 +1,17 @@
 //! The seeded cases are of many kinds, and the lister tells what the file
 //! check tells.
 
+use g719::types::Record;
 use g719::{cases, reference};
 use std::collections::{BTreeMap, BTreeSet};
 
 const CASES: u64 = 20_000;
+
+/// The mode and the four flags of a record.
+fn kind(record: &Record) -> (u8, [bool; 4]) {
+    let flags = [record.transient, record.flag_l, record.flag_n, record.flag_c];
+    (record.mode, flags)
+}
 
 /// The last line of the lister tells what the check tells, but for a booking.
 #[test]
@@ -59,13 +66,7 @@ fn layouts_of_all_kinds() {
         let case = cases::layout_case(seed);
         let (record, parts) = (case.record, reference::layout(&case.record, &case.codes));
         if parts.reply == 0 {
-            kinds.insert((
-                record.mode,
-                record.transient,
-                record.flag_l,
-                record.flag_n,
-                record.flag_c,
-            ));
+            kinds.insert(kind(&record));
             whole += u32::from(parts.tail_bits == 0);
             unread += u32::from(record.noise > 3 && record.tail_bits != parts.tail_bits);
         }
@@ -83,13 +84,7 @@ fn sound_frames_of_all_kinds() {
         let reading = reference::read(&case.src, &mut case.codes, &mut case.tail);
         let record = reading.record;
         if reading.reply == 0 {
-            kinds.insert((
-                record.mode,
-                record.transient,
-                record.flag_l,
-                record.flag_n,
-                record.flag_c,
-            ));
+            kinds.insert(kind(&record));
         }
     }
     assert_eq!(kinds.len(), 20 * 16);
