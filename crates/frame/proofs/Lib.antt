@@ -1,1 +1,2 @@
 pub mod PlainCodes
+pub mod Bodies

@@ -4,14 +4,13 @@ ghost use mathlib.Core.List.{_++_};
 ghost use Prim.Native.Nat.{ℕ, _+_, _-_, _*_, _≤_, _<_};
 ghost use lib.ListN.{length, drop};
 ghost use Rattle.bits.specs.Bits.{view, bit, val};
-ghost use Rattle.words.specs.Runs.{ran, runAt};
 ghost use Rattle.prefix.specs.Sizes.{modeBytes};
 ghost use Rattle.prefix.specs.Prefix.{prefixOf};
 ghost use Rattle.allotment.specs.Allotment.{sharesOf};
 ghost use Rattle.frame.specs.Kinds.{bandOf, kindOf, kinds};
 ghost use Rattle.frame.specs.Layout.{spare, wideIn, kindsAt};
 ghost use Rattle.frame.specs.Answers.{Outcome, flagsOf, stoppedAt, started, readBody, readAnswer, readingOf, codesAfter, tailAfter, tailFrom};
-ghost use Rattle.frame.specs.Reads.{Opened, keptOf, madeReading};
+ghost use Rattle.frame.specs.Reads.{Opened, BodyTold, FrameTold, madeReading};
 use ground::numbers::minus;
 use ground::replies::CUT;
 use ground::replies::DONE;
@@ -192,21 +191,6 @@ fn copy_codes(found: &[u16], codes: &mut [u16])
     }
 }
 
-// Reads the codes; a refusal leaves the lent numbers as they were.
-fn read_codes(s: &[u8], at: usize, end: usize, kinds: &[u8], codes: &mut [u16]) -> Run
-    requires { ⌜ (length (now kinds) ≡ 800) × (800 ≤ length (now codes)) ⌝ }
-    ensures { λ r. ⌜ (r ≡ ran at (end - at) (runAt (now (s .entry)) at end (now (kinds .entry))))
-        × (now (codes .exit) ≡ keptOf (now (codes .entry)) (runAt (now (s .entry)) at end (now (kinds .entry)))) ⌝ }
-{
-    let mut found = [0u16; 800];
-    let run = words::runs::read_words(s, at, end, kinds, &mut found);
-    let Run::Done(next) = run else {
-        return run;
-    };
-    copy_codes(&found, codes);
-    Run::Done(next)
-}
-
 // Eight bits at a place, 0 past the end.
 fn tail_byte(s: &[u8], p: usize) -> u8
     ensures { λ r. ⌜ r ≡ val (view (now (s .entry)) p 8) ⌝ }
@@ -255,32 +239,27 @@ fn made_reading(
     }
 }
 
-// The codes, noise and tail of a body whose norms end at a place.
+// The codes and the noise of a body whose norms end at a place. The codes go into `found`, up to the first refusal.
 fn read_rest(
     s: &[u8],
     mode: u8,
     flags: Flags,
     norms: [u8; 44],
     at: usize,
-    codes: &mut [u16],
-    tail: &mut [u8],
+    found: &mut [u16],
 ) -> Reading
     requires { ⌜ Opened (now s) norms at × (flags ≡ flagsOf (view (now s) 0 4)) ⌝ }
-    requires { ⌜ (length (now s) ≤ 320) × (length (now s) ≡ modeBytes mode) ⌝ }
-    requires { ⌜ (800 ≤ length (now codes)) × (320 ≤ length (now tail)) ⌝ }
-    ensures { λ r. ⌜ (r ≡ readingOf (readBody mode (now (s .entry))))
-        × (now (codes .exit) ≡ codesAfter (now (codes .entry)) (readBody mode (now (s .entry))))
-        × (now (tail .exit) ≡ tailAfter (now (tail .entry)) (readBody mode (now (s .entry)))) ⌝ }
+    requires { ⌜ (length (now s) ≤ 320) × (length (now s) ≡ modeBytes mode) × (length (now found) ≡ 800) ⌝ }
+    ensures { λ r. ⌜ BodyTold (now (s .entry)) (readBody mode (now (s .entry))) r (now (found .exit)) ⌝ }
 {
     let end = s.len() * 8;
     let k = spare_of(flags.transient);
     let kinds = kinds_for(flags, norms, at, end);
-    let run = read_codes(s, at, end - k, &kinds, codes);
+    let run = words::runs::read_words(s, at, end - k, &kinds, found);
     let Run::Done(next) = run else {
         return refusal(words::runs::run_reply(run), 0);
     };
     let noise = bits::read_bits(s, next, k);
-    fill_tail(s, next + k, tail);
     made_reading(
         mode,
         s.len() + 1,
@@ -292,12 +271,9 @@ fn read_rest(
 }
 
 // A body of a mode.
-fn read_body(s: &[u8], mode: u8, codes: &mut [u16], tail: &mut [u8]) -> Reading
-    requires { ⌜ (80 ≤ length (now s)) × (length (now s) ≤ 320) × (length (now s) ≡ modeBytes mode) ⌝ }
-    requires { ⌜ (800 ≤ length (now codes)) × (320 ≤ length (now tail)) ⌝ }
-    ensures { λ r. ⌜ (r ≡ readingOf (readBody mode (now (s .entry))))
-        × (now (codes .exit) ≡ codesAfter (now (codes .entry)) (readBody mode (now (s .entry))))
-        × (now (tail .exit) ≡ tailAfter (now (tail .entry)) (readBody mode (now (s .entry)))) ⌝ }
+fn read_body(s: &[u8], mode: u8, found: &mut [u16]) -> Reading
+    requires { ⌜ (80 ≤ length (now s)) × (length (now s) ≤ 320) × (length (now s) ≡ modeBytes mode) × (length (now found) ≡ 800) ⌝ }
+    ensures { λ r. ⌜ BodyTold (now (s .entry)) (readBody mode (now (s .entry))) r (now (found .exit)) ⌝ }
 {
     let flags = read_flags(s);
     let part = norms::read_norms(s, 4, s.len() * 8, flags.transient, flags.n);
@@ -306,16 +282,13 @@ fn read_body(s: &[u8], mode: u8, codes: &mut [u16], tail: &mut [u8]) -> Reading
         return refusal(reply, 0);
     }
     let norms = part.norms;
-    read_rest(s, mode, flags, norms, part.next, codes, tail)
+    read_rest(s, mode, flags, norms, part.next, found)
 }
 
 // A frame with data, as its prefix says.
-fn read_data(src: &[u8], field: Length, codes: &mut [u16], tail: &mut [u8]) -> Reading
-    requires { ⌜ Prefix.Data field ≡ prefixOf (now src) ⌝ }
-    requires { ⌜ (800 ≤ length (now codes)) × (320 ≤ length (now tail)) ⌝ }
-    ensures { λ r. ⌜ (r ≡ readingOf (started (Prefix.Data field) (now (src .entry))))
-        × (now (codes .exit) ≡ codesAfter (now (codes .entry)) (started (Prefix.Data field) (now (src .entry))))
-        × (now (tail .exit) ≡ tailAfter (now (tail .entry)) (started (Prefix.Data field) (now (src .entry)))) ⌝ }
+fn read_data(src: &[u8], field: Length, found: &mut [u16]) -> Reading
+    requires { ⌜ (Prefix.Data field ≡ prefixOf (now src)) × (length (now found) ≡ 800) ⌝ }
+    ensures { λ r. ⌜ FrameTold (now (src .entry)) (started (Prefix.Data field) (now (src .entry))) r (now (found .exit)) ⌝ }
 {
     let n = field.bytes() as usize;
     if src.len() <= n {
@@ -327,21 +300,14 @@ fn read_data(src: &[u8], field: Length, codes: &mut [u16], tail: &mut [u8]) -> R
     let Rate::Is(mode) = named else {
         return refusal(RESERVED, 0);
     };
-    read_body(body, mode.0, codes, tail)
+    read_body(body, mode.0, found)
 }
 
-// Reads the stored frame at the start of a slice: 10, 1, 2, 3, 14, 4, 5, then 6 or 7, first met. Only 0 changes the lent numbers and bytes.
-pub fn read(src: &[u8], codes: &mut [u16], tail: &mut [u8]) -> Reading
-    ensures { λ r. ⌜ (r ≡ readingOf (readAnswer (now (src .entry)) (length (now (codes .entry))) (length (now (tail .entry)))))
-        × (now (codes .exit) ≡ codesAfter (now (codes .entry)) (readAnswer (now (src .entry)) (length (now (codes .entry))) (length (now (tail .entry)))))
-        × (now (tail .exit) ≡ tailAfter (now (tail .entry)) (readAnswer (now (src .entry)) (length (now (codes .entry))) (length (now (tail .entry))))) ⌝ }
+// The frame at the start of a slice, its codes into `found`: 1, 2, 3, 14, 4, 5, then 6 or 7, first met.
+fn read_frame(src: &[u8], found: &mut [u16]) -> Reading
+    requires { ⌜ length (now found) ≡ 800 ⌝ }
+    ensures { λ r. ⌜ FrameTold (now (src .entry)) (started (prefixOf (now (src .entry))) (now (src .entry))) r (now (found .exit)) ⌝ }
 {
-    if codes.len() < 800 {
-        return refusal(SHORT_ROOM, 0);
-    }
-    if tail.len() < 320 {
-        return refusal(SHORT_ROOM, 0);
-    }
     let p = prefix::read_prefix(src);
     match p {
         Prefix::NoByte => {
@@ -357,7 +323,40 @@ pub fn read(src: &[u8], codes: &mut [u16], tail: &mut [u8]) -> Reading
             return refusal(NO_DATA, 1);
         }
         Prefix::Data(l) => {
-            return read_data(src, l, codes, tail);
+            return read_data(src, l, found);
         }
     }
+}
+
+// Reads the stored frame at the start of a slice and answers as `read` with enough room; its codes and its tail are read, but not given out.
+pub fn read_record(src: &[u8]) -> Reading
+    ensures { λ r. ⌜ r ≡ readingOf (started (prefixOf (now (src .entry))) (now (src .entry))) ⌝ }
+{
+    let mut found = [0u16; 800];
+    read_frame(src, &mut found)
+}
+
+// Reads the stored frame at the start of a slice: 10, 1, 2, 3, 14, 4, 5, then 6 or 7, first met. Only 0 changes the lent numbers and bytes.
+pub fn read(src: &[u8], codes: &mut [u16], tail: &mut [u8]) -> Reading
+    ensures { λ r. ⌜ (r ≡ readingOf (readAnswer (now (src .entry)) (length (now (codes .entry))) (length (now (tail .entry)))))
+        × (now (codes .exit) ≡ codesAfter (now (codes .entry)) (readAnswer (now (src .entry)) (length (now (codes .entry))) (length (now (tail .entry)))))
+        × (now (tail .exit) ≡ tailAfter (now (tail .entry)) (readAnswer (now (src .entry)) (length (now (codes .entry))) (length (now (tail .entry))))) ⌝ }
+{
+    if codes.len() < 800 {
+        return refusal(SHORT_ROOM, 0);
+    }
+    if tail.len() < 320 {
+        return refusal(SHORT_ROOM, 0);
+    }
+    let mut found = [0u16; 800];
+    let r = read_frame(src, &mut found);
+    let reply = r.reply;
+    if reply != DONE {
+        return r;
+    }
+    let e = r.next;
+    let at = (e - 1) * 8 - r.record.tail_bits as usize;
+    copy_codes(&found, codes);
+    fill_tail(&src[1..e], at, tail);
+    r
 }

@@ -11,7 +11,7 @@ use lib.ListN.{length, drop}
 use Rattle.ground.specs.Replies.{done, noData, tooMany}
 use Rattle.prefix.specs.Sizes.{modeBytes}
 use Rattle.frame.specs.Answers.{Outcome, refused, empty, sound}
-use Rattle.recording.specs.Walk.{storedAt, onward, walk, mostFrames, Fits, stored-fits}
+use Rattle.recording.specs.Walk.{storedAt, stepOf, onward, walkOver, walk, mostFrames, Fits, stored-fits}
 use Rattle.recording.specs.declared.answer.Check.{Check}
 use Rattle.listing.specs.Text.{digit, digits, decimalBy, decimal, frameLine, totalLine}
 use Rattle.listing.specs.Listing.{lineOf, lines, totalOf, mostBytes, listingOf}
@@ -70,7 +70,7 @@ refused-one x l h = rw (ne-eqb x done (λ e. omega arith), ne-eqb x tooMany (λ 
 
 line-counted : (number : ℕ) (s : List ℕ) (o : Outcome) → Fits s o → (rest : ℕ → List ℕ) (w : ℕ → Check)
     → ((k : ℕ) → newlines (rest k) ≡ w k .count + refusedLines (w k .reply))
-    → newlines (lineOf number o rest) ≡ onward o w .count + refusedLines (onward o w .reply)
+    → newlines (lineOf number o rest) ≡ onward (stepOf o) w .count + refusedLines (onward (stepOf o) w .reply)
 unfolding lineOf onward
 line-counted number s (refused x) f rest w h = omega (arith, line-one number x 0, refused-one x (f .0) (f .1))
 line-counted number s empty f rest w h =
@@ -80,7 +80,7 @@ line-counted number s (sound mode x) f rest w h =
     omega (arith, newlines-append (frameLine number done n) (rest (n + 1)), line-one number done n, h (n + 1))
 
 lines-counted : (n number : ℕ) (s : List ℕ) → newlines (lines n number s) ≡ walk n s .count + refusedLines (walk n s .reply)
-unfolding lines walk newlines refusedLines
+unfolding lines walkOver newlines refusedLines
 lines-counted zero number [] = refl
 lines-counted zero number (b ∷ s) = refl
 lines-counted (suc n) number [] = refl

@@ -11,8 +11,9 @@ use Rattle.ground.specs.Cases.{by-bool}
 use Rattle.ground.specs.Replies.{done}
 use Rattle.prefix.specs.Sizes.{modeBytes, mode-bounds}
 use Rattle.frame.specs.Answers.{Outcome, refused, empty, sound, readingOf}
-use Rattle.recording.specs.Walk.{storedAt, walk, mostFrames, Fits, stored-fits}
-use Rattle.recording.specs.Told.{Stop, ended, passed, met, walk-told}
+use Rattle.recording.specs.Walk.{storedAt, frameStep, walk, mostFrames, Fits, stored-fits}
+use Rattle.recording.specs.Units.{Stop, ended, passed, met, walk-told}
+use Rattle.recording.specs.Frames.{frame-lawful}
 use Rattle.recording.specs.declared.answer.Check.{Check}
 use Rattle.listing.specs.Text.{frameLine}
 use Rattle.listing.specs.Numbers.{length-decimal, length-line, length-total}
@@ -95,15 +96,15 @@ pub record Bounded (src : List ℕ) (w : Check) : Type 0 where
   pub number : w .reply < 100
   pub inside : w .place ≤ length src
 
-stop-small : (n : ℕ) (rest : List ℕ) (w : Check) → Stop n rest w → w .reply < 100
+stop-small : (n : ℕ) (rest : List ℕ) (w : Check) → Stop frameStep n rest w → w .reply < 100
 stop-small n rest w (ended e q) = omega arith
 stop-small n rest w (passed e q h) = omega arith
-stop-small n rest w (met h l e) = let f = subst (Fits rest) e (stored-fits rest h) in omega (arith, f .1)
+stop-small n rest w (met h l e) = let f = frame-lawful .number rest (w .reply) h e in omega (arith, f .1)
 
 pub walk-bounded : (src : List ℕ) → Bounded src (walk mostFrames src)
 walk-bounded src =
     let w = walk mostFrames src in
-    let t = walk-told mostFrames src in
+    let t = walk-told frame-lawful mostFrames src in
     record {
       few = t .few;
       number = stop-small mostFrames (t .rest) w (t .stop);

@@ -1,5 +1,4 @@
 pub mod Text
-pub mod Laying
 pub mod Numbers
 pub mod Listing
 pub mod Lengths

@@ -10,7 +10,7 @@ use lib.Dec.{ltb}
 use lib.ListN.{length, set, length-append, length-set}
 use Rattle.ground.specs.Cases.{by-bool}
 use Rattle.listing.specs.Text.{digit, digits, decimalBy, decimal, frameLine, totalLine}
-use Rattle.listing.specs.Laying.{laidText, Laid, laid-last}
+use Rattle.ground.specs.Laying.{laidText, Laid, laid-last}
 
 pub length-digits : (k n : ℕ) → length (digits k n) ≡ k
 unfolding digits

@@ -10,11 +10,12 @@ use lib.Seq.{drop-drop}
 use Rattle.ground.specs.Replies.{done, tooMany}
 use Rattle.frame.specs.Answers.{Outcome, refused, empty, sound, readAnswer, readingOf}
 use Rattle.frame.specs.declared.Reading.{Reading}
-use Rattle.recording.specs.Walk.{storedAt, madeCheck, stopped, walk, mostFrames, isSound, stored-fits, walk-end, walk-full, walk-refused}
-use Rattle.recording.specs.Turns.{Passed, passed-none, passed-more, answered, told}
+use Rattle.recording.specs.Walk.{storedAt, stepOf, frameStep, madeCheck, stopped, walk, mostFrames, isSound, stored-fits, walk-end, walk-full, walk-stops}
+use Rattle.recording.specs.Turns.{Passed, passed-none, passed-more, answered, told, reading-passes}
+use Rattle.recording.specs.Frames.{frame-lawful}
 use Rattle.recording.specs.declared.answer.Check.{Check}
 use Rattle.listing.specs.Text.{frameLine}
-use Rattle.listing.specs.Laying.{laidText, Laid, then, laid-long, laid-none}
+use Rattle.ground.specs.Laying.{laidText, Laid, then, laid-long, laid-none}
 use Rattle.listing.specs.Listing.{lines, room}
 use Rattle.listing.specs.Lengths.{behind, lines-some, lines-end, lines-full, lines-short, small}
 use Rattle.listing.specs.declared.Lines.{Lines}
@@ -27,7 +28,7 @@ abbrev pub linesOf : List ℕ → Lines
 linesOf src = madeLines (walk mostFrames src) (length (lines mostFrames 0 src))
 
 pub record Listed (src out₀ out : List ℕ) (next count place : ℕ) : Type 0 where
-  pub passed : Passed src place count
+  pub passed : Passed frameStep src place count
   pub text : List ℕ
   pub laid : Laid out₀ 0 text out next
   pub whole : lines mostFrames 0 src ≡ text ++ lines (mostFrames - count) count (drop place src)
@@ -35,7 +36,7 @@ pub record Listed (src out₀ out : List ℕ) (next count place : ℕ) : Type 0 
 pub listed-none : (src out : List ℕ) (next count place : ℕ) → next ≡ 0 → count ≡ 0 → place ≡ 0 → Listed src out out next count place
 listed-none src out next count place en ec ep =
     record {
-      passed = passed-none src place count ep ec;
+      passed = passed-none frameStep src place count ep ec;
       text = [];
       laid = laid-none out next en;
       whole = ap₂ (λ (k n : ℕ). lines (mostFrames - k) k (drop n src)) (sym ec) (sym ep);
@@ -69,7 +70,7 @@ behind-next (sound mode x) rest h = refl
 -- a frame without one is refused
 stop-next : (n : ℕ) (s : List ℕ) → 0 < length s → (o : Outcome) → storedAt s ≡ o → readingOf o .next ≡ 0
     → (walk (suc n) s ≡ stopped (readingOf o .reply)) × ((rest : ℕ → List ℕ) → behind o rest ≡ [])
-stop-next n s h (refused x) e q = (walk-refused n s h x e, λ rest. refl)
+stop-next n s h (refused x) e q = (walk-stops frameStep n s h x (ap stepOf e), λ rest. refl)
 stop-next n s h empty e q = absurd (omega arith)
 stop-next n s h (sound mode x) e q = absurd (omega arith)
 
@@ -83,22 +84,22 @@ module _ (src out₀ out : List ℕ) (next count place : ℕ) (p : Listed src ou
   listed-full h e =
       let k : mostFrames - count ≡ 0 = omega arith in
       complete src out₀ out (p .text) next (madeCheck tooMany count place) (p .laid) (ended 0 k (lines-full count (drop place src)))
-      (answered src place count (p .passed) 0 k tooMany (walk-full (drop place src) (omega (arith, length-drop place src))))
+      (answered (p .passed) 0 k tooMany (walk-full frameStep (drop place src) (omega (arith, length-drop place src))))
 
   -- no byte left
   pub listed-end : length src ≤ place → Complete src out₀ out (madeLines (madeCheck done count place) next)
   listed-end h =
       let z : length (drop place src) ≡ 0 = omega (arith, length-drop place src) in
       complete src out₀ out (p .text) next (madeCheck done count place) (p .laid) (ended (mostFrames - count) refl (lines-end (mostFrames - count) count (drop place src) z))
-      (answered src place count (p .passed) (mostFrames - count) refl done (walk-end (mostFrames - count) (drop place src) z))
+      (answered (p .passed) (mostFrames - count) refl done (walk-end frameStep (mostFrames - count) (drop place src) z))
 
   module _ (h : place < length src) (l : (count ≡ mostFrames) → ⊥)
       (codes tail : ℕ) (ec : codes ≡ 800) (et : tail ≡ 320) (r : Reading) (e : r ≡ readingOf (readAnswer (take (length src - place) (drop place src)) codes tail)) where
     told-reply : r .reply ≡ readingOf (storedAt (drop place src)) .reply
-    told-reply = ap (λ (z : Reading). z .reply) (told src place count (p .passed) h l codes tail ec et r e)
+    told-reply = ap (λ (z : Reading). z .reply) (told src place codes tail ec et r e)
 
     told-next : r .next ≡ readingOf (storedAt (drop place src)) .next
-    told-next = ap (λ (z : Reading). z .next) (told src place count (p .passed) h l codes tail ec et r e)
+    told-next = ap (λ (z : Reading). z .next) (told src place codes tail ec et r e)
 
     here : 0 < length (drop place src)
     here = omega (arith, length-drop place src)
@@ -150,7 +151,7 @@ module _ (src out₀ out : List ℕ) (next count place : ℕ) (p : Listed src ou
             let z = stop-next (mostFrames - (count + 1)) (drop place src) here o refl (sym told-next ∙ q) in
             complete src out₀ out′ t next′ (madeCheck (r .reply) count place) (then (p .laid) m)
             (whole ∙ ap (λ (l : List ℕ). t ++ l) (z .1 _) ∙ append-nil t)
-            (answered src place count (p .passed) (suc (mostFrames - (count + 1))) one-less (r .reply) (z .0 ∙ ap stopped (sym told-reply)))
+            (answered (p .passed) (suc (mostFrames - (count + 1))) one-less (r .reply) (z .0 ∙ ap stopped (sym told-reply)))
 
         -- a sound one
         pub listed-more : (r .next ≡ 0 → ⊥) → Listed src out₀ out′ next′ (count + 1) (place + r .next)
@@ -160,7 +161,7 @@ module _ (src out₀ out : List ℕ) (next count place : ℕ) (p : Listed src ou
             let k = mostFrames - (count + 1) in
             let q′ : readingOf o .next ≡ 0 → ⊥ = λ z. q (told-next ∙ z) in
             record {
-              passed = passed-more src place count (p .passed) h l codes tail ec et r e (ap isSound told-reply ∙ sound-next o q′);
+              passed = let g = reading-passes (drop place src) r (told src place codes tail ec et r e) (ap isSound told-reply ∙ sound-next o q′) in passed-more (p .passed) h l (r .next) (frame-lawful .told (drop place src) (r .next) g .1) g;
               text = t;
               laid = then (p .laid) m;
               whole =

@@ -11,7 +11,7 @@ use Rattle.ground.specs.Cases.{by-bool}
 use Rattle.ground.specs.Replies.{done, shortRoom}
 use Rattle.recording.specs.Walk.{walk, mostFrames}
 use Rattle.listing.specs.Text.{totalLine, tooLong}
-use Rattle.listing.specs.Laying.{Laid, then, laid-front, length-laid}
+use Rattle.ground.specs.Laying.{Laid, then, laid-front, length-laid}
 use Rattle.listing.specs.Listing.{lines, totalOf, mostBytes, listingOf, room, listedIn, outAfter}
 use Rattle.listing.specs.Lengths.{walk-bounded, lines-short, total-short, listing-short}
 use Rattle.listing.specs.Turns.{Complete}

@@ -3,10 +3,11 @@ ghost use mathlib.Core.Path.{_≡_};
 ghost use Prim.Native.Nat.{_+_, _-_, _≤_, _<_};
 ghost use lib.ListN.{length};
 ghost use Rattle.listing.specs.Text.{digits, decimal, frameLine, totalLine};
-ghost use Rattle.listing.specs.Laying.{Laid};
+ghost use Rattle.ground.specs.Laying.{Laid};
 ghost use Rattle.listing.specs.Listing.{room, listedIn, outAfter};
 ghost use Rattle.listing.specs.Turns.{madeLines, Complete};
 ghost use Rattle.recording.specs.Walk.{madeCheck};
+use ground::bytes::put;
 use ground::replies::DONE;
 use ground::replies::SHORT_ROOM;
 use ground::replies::TOO_MANY;
@@ -33,19 +34,6 @@ pub struct Lines {
     pub count: usize,
     pub place: usize,
     pub next: usize,
-}
-
-// Puts a text at a place; answers the place after it.
-fn put(out: &mut [u8], at: usize, text: &[u8]) -> usize
-    requires { ⌜ at + length (now text) ≤ length (now out) ⌝ }
-    ensures { λ r. ⌜ Laid (now (out .entry)) at (now (text .entry)) (now (out .exit)) r ⌝ }
-{
-    let mut i: usize = 0;
-    while i < text.len() {
-        out[at + i] = text[i];
-        i += 1;
-    }
-    at + i
 }
 
 // Puts the last k digits of a number.

@@ -19,8 +19,8 @@ use Rattle.prefix.specs.declared.Length.{Length}
 use Rattle.frame.specs.Layout.{Frame}
 use Rattle.frame.specs.Answers.{sound, started}
 use Rattle.frame.specs.Reads.{data-cut}
-use Rattle.recording.specs.Walk.{storedAt, mostFrames, checkOf, stored-started}
-use Rattle.recording.specs.Frames.{Frames, first-cut}
+use Rattle.recording.specs.Walk.{storedAt, stepOf, mostFrames, checkOf, stored-started}
+use Rattle.recording.specs.Frames.{Frames, first-cut, frame-lawful}
 use Rattle.recording.specs.Checked.{refused-behind, byte-behind}
 
 -- the prefix byte alone decides: bytes whose prefix says data and more bytes than follow, whatever they are
@@ -28,8 +28,8 @@ pub cut-byte : {k : ℕ} {s : List ℕ} → Frames k s → k < mostFrames
     → (part : List ℕ) (l : Length) → prefixOf part ≡ Data l → 0 < length part → length part ≤ lengthBytes (l .0)
     → (b : ℕ) → checkOf (s ++ part) b ≡ record { reply = cut; count = k; place = length s }
 cut-byte fs h part l q p n b =
-    refused-behind fs b part cut h p
-    (stored-started part ∙ ap (λ (z : Prefix). started z part) q ∙ data-cut part l (lengthBytes (l .0)) refl n)
+    refused-behind frame-lawful fs b part cut h p
+    (ap stepOf (stored-started part ∙ ap (λ (z : Prefix). started z part) q ∙ data-cut part l (lengthBytes (l .0)) refl n))
 
 pub cut-report : {k : ℕ} {s : List ℕ} → Frames k s
     → (f : List ℕ) (m : ℕ) (x : Frame) → storedAt f ≡ sound m x → length f ≡ modeBytes m + 1
@@ -39,4 +39,4 @@ pub cut-report : {k : ℕ} {s : List ℕ} → Frames k s
     × (k ≡ mostFrames → checkOf (s ++ take j f) b ≡ record { reply = tooMany; count = mostFrames; place = length s })
 cut-report fs f m x e l j p h b =
     let n : length (take j f) ≡ j = length-take-le j f (omega arith) in
-    (λ t. refused-behind fs b (take j f) cut t (omega arith) (first-cut f m x e j p (omega arith)), λ t. byte-behind fs b (take j f) t (omega arith))
+    (λ t. refused-behind frame-lawful fs b (take j f) cut t (omega arith) (ap stepOf (first-cut f m x e j p (omega arith))), λ t. byte-behind frame-lawful fs b (take j f) t (omega arith))

@@ -1,6 +1,6 @@
 -- Sound stored frames, one after the other: a frame reads the same whatever follows it, and a part of it is cut.
 -- Assumes nothing.
-use mathlib.Core.Path.{_≡_, refl, sym, ap, _∙_}
+use mathlib.Core.Path.{_≡_, refl, sym, ap, _∙_, subst}
 use mathlib.Core.List.{List, [], _∷_, _++_}
 use Prim.Native.Nat.{ℕ, zero, suc, _+_, _-_, _*_, _≤_, _<_}
 use native.Mathlib.Omega.{arith}
@@ -18,9 +18,10 @@ use Rattle.prefix.specs.declared.Prefix.{Prefix}
 use Rattle.prefix.specs.declared.Prefix.the-variants.{Data, NoData, NoByte, Marked, Reserved}
 use Rattle.prefix.specs.declared.Length.{Length}
 use Rattle.frame.specs.Layout.{Frame, frame}
-use Rattle.frame.specs.Answers.{refused, empty, sound, outcome, readBody, bodyOf, started}
+use Rattle.frame.specs.Answers.{Outcome, refused, empty, sound, outcome, readBody, bodyOf, started}
 use Rattle.frame.specs.Reads.{data-cut, data-whole}
-use Rattle.recording.specs.Walk.{storedAt, stored-started}
+use Rattle.recording.specs.Walk.{storedAt, stored-started, stops, passes, stepOf, frameStep, Fits, stored-fits}
+use Rattle.recording.specs.Units.{Units, Lawful}
 
 -- exactly one sound stored frame: a byte that says no data, or a prefix byte and the body of its mode
 pub data Stored (f : List ℕ) : Type 0 where
@@ -28,9 +29,8 @@ pub data Stored (f : List ℕ) : Type 0 where
   full : (m : ℕ) (x : Frame) → storedAt f ≡ sound m x → length f ≡ modeBytes m + 1 → Stored f
 
 -- so many of them, one after the other
-pub data Frames : ℕ → List ℕ → Type 0 where
-  none : Frames 0 []
-  more : {k : ℕ} {f s : List ℕ} → Stored f → Frames k s → Frames (1 + k) (f ++ s)
+abbrev pub Frames : ℕ → List ℕ → Type 0
+Frames k s = Units Stored k s
 
 -- ---- the prefix byte decides how many bytes are read
 
@@ -167,3 +167,38 @@ first-bare s e = go s (bare-says s e)
       stored-started (b ∷ []) ∙ ap (λ (z : Prefix). started z (b ∷ [])) (same-prefix (b ∷ []) (b ∷ t) (omega arith) (omega arith) refl ∙ q),
       refl,
     )
+
+-- ---- a frame is a lawful unit
+
+stored-some : (f : List ℕ) → Stored f → 0 < length f
+stored-some f (bare e l) = omega arith
+stored-some f (full m x e l) = omega arith
+
+stored-passes : (f rest : List ℕ) → Stored f → frameStep (f ++ rest) ≡ passes (length f)
+stored-passes f rest (bare e l) = ap stepOf (stored-front f rest (bare e l) ∙ e) ∙ ap passes (sym l)
+stored-passes f rest (full m x e l) = ap stepOf (stored-front f rest (full m x e l) ∙ e) ∙ ap passes (sym l)
+
+frame-told : (s : List ℕ) (k : ℕ) (o : Outcome) → storedAt s ≡ o → stepOf o ≡ passes k → Stored (take k s) × (k ≤ length s)
+frame-told s k (refused x) e q = absurd (let z : _≡_ {A = ℕ} 0 1 = cc in omega arith)
+frame-told s k empty e q =
+    let n : 1 ≡ k = cc in
+    let b = first-bare s e in
+    subst (λ (j : ℕ). Stored (take j s) × (j ≤ length s)) n (bare (b .1) (b .2), b .0)
+frame-told s k (sound m x) e q =
+    let n : modeBytes m + 1 ≡ k = cc in
+    let y = sound-says s m x e in
+    subst (λ (j : ℕ). Stored (take j s) × (j ≤ length s)) n (full m x (first-sound s m x e) (length-take-le (modeBytes m + 1) s (omega (arith, y .long))), omega (arith, y .long))
+
+frame-number : (s : List ℕ) (x : ℕ) (o : Outcome) → Fits s o → stepOf o ≡ stops x → (2 ≤ x) × (x ≤ 7)
+frame-number s x (refused y) f q = let n : y ≡ x = cc in subst (λ (z : ℕ). (2 ≤ z) × (z ≤ 7)) n f
+frame-number s x empty f q = absurd (let z : _≡_ {A = ℕ} 0 1 = cc in omega arith)
+frame-number s x (sound m y) f q = absurd (let z : _≡_ {A = ℕ} 0 1 = cc in omega arith)
+
+pub frame-lawful : Lawful frameStep Stored
+frame-lawful =
+    record {
+      some = stored-some;
+      front = stored-passes;
+      told = λ s k e. frame-told s k (storedAt s) refl e;
+      number = λ s x h e. frame-number s x (storedAt s) (stored-fits s h) e;
+    }

@@ -1,7 +1,8 @@
 pub mod Walk
-pub mod Turns
+pub mod Units
 pub mod Frames
-pub mod Told
+pub mod Blocks
+pub mod Turns
 pub mod Checked
 pub mod CutReport
 pub mod Stars

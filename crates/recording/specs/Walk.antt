@@ -1,4 +1,5 @@
 -- The file check (01, File check): frame after frame from the start, each read in full, until no byte is left, a frame is refused, or 3,000 are passed.
+-- The walk goes over stored units: a unit is a frame here, and a block of several frames where a recording has several channels (02, No. 2).
 -- Assumes nothing.
 use mathlib.Core.Path.{_≡_, refl, sym, ap, ap₂, _∙_, subst}
 use mathlib.Core.Bool.{Bool, true, false, cond}
@@ -39,30 +40,51 @@ stopped x = madeCheck x 0 0
 abbrev pub ahead : ℕ → ℕ → Check → Check
 ahead k n w = madeCheck (w .reply) (k + w .count) (n + w .place)
 
--- a refused frame stops; behind a sound one the part after it is handed on
-unfoldable pub onward : Outcome → (ℕ → Check) → Check
-onward (refused x) rest = stopped x
-onward empty rest = ahead 1 1 (rest 1)
-onward (sound mode x) rest = ahead 1 (modeBytes mode + 1) (rest (modeBytes mode + 1))
+-- a stored unit at the start: it stops with a number, or passes with so many bytes
+pub data Step : Type 0 where
+  stops : ℕ → Step
+  passes : ℕ → Step
 
--- the walk with so many frames still allowed: 0 where no byte is left, 15 for a byte where no frame is allowed, unread
-unfoldable pub walk : ℕ → List ℕ → Check
-walk zero [] = stopped done
-walk zero (b ∷ s) = stopped tooMany
-walk (suc n) [] = stopped done
-walk (suc n) (b ∷ s) = onward (storedAt (b ∷ s)) (λ k. walk n (drop k (b ∷ s)))
+abbrev pub stepOf : Outcome → Step
+stepOf (refused x) = stops x
+stepOf empty = passes 1
+stepOf (sound mode x) = passes (modeBytes mode + 1)
+
+-- a frame as a unit
+abbrev pub frameStep : List ℕ → Step
+frameStep s = stepOf (storedAt s)
+
+-- a refused unit stops; behind a sound one the part after it is handed on
+unfoldable pub onward : Step → (ℕ → Check) → Check
+onward (stops x) rest = stopped x
+onward (passes k) rest = ahead 1 k (rest k)
+
+-- the walk with so many units still allowed: 0 where no byte is left, 15 for a byte where no unit is allowed, unread
+unfoldable pub walkOver : (List ℕ → Step) → ℕ → List ℕ → Check
+walkOver unit zero [] = stopped done
+walkOver unit zero (b ∷ s) = stopped tooMany
+walkOver unit (suc n) [] = stopped done
+walkOver unit (suc n) (b ∷ s) = onward (unit (b ∷ s)) (λ k. walkOver unit n (drop k (b ∷ s)))
+
+abbrev pub walk : ℕ → List ℕ → Check
+walk n s = walkOver frameStep n s
 
 -- at the end the count is held against the booking: 11
 unfoldable pub booked : ℕ → Check → Check
 booked b w =
     cond (eqb (w .reply) done) (cond (eqb (w .count) b) w (madeCheck notAsBooked (w .count) (w .place))) w
 
+-- the most units of a recording
 abbrev pub mostFrames : ℕ
 mostFrames = 3000
 
+-- the check of a recording of such units
+unfoldable pub checkOver : (List ℕ → Step) → List ℕ → ℕ → Check
+checkOver unit src booking = booked booking (walkOver unit mostFrames src)
+
 -- the file check
-unfoldable pub checkOf : List ℕ → ℕ → Check
-checkOf src booking = booked booking (walk mostFrames src)
+abbrev pub checkOf : List ℕ → ℕ → Check
+checkOf src booking = checkOver frameStep src booking
 
 -- the replies of sound frames: 14 and 0
 unfoldable pub isSound : ℕ → Bool
@@ -150,32 +172,46 @@ stored-fits s h = subst (Fits s) (sym (stored-started s)) (started-fits s (prefi
 
 -- ---- the walk by its cases
 
-pub walk-end : (n : ℕ) (s : List ℕ) → length s ≡ 0 → walk n s ≡ stopped done
-unfolding walk
-walk-end zero [] h = refl
-walk-end (suc n) [] h = refl
-walk-end n (b ∷ s) h = absurd (omega arith)
+module _ (unit : List ℕ → Step) where
+  pub walk-end : (n : ℕ) (s : List ℕ) → length s ≡ 0 → walkOver unit n s ≡ stopped done
+  unfolding walkOver
+  walk-end zero [] h = refl
+  walk-end (suc n) [] h = refl
+  walk-end n (b ∷ s) h = absurd (omega arith)
 
-pub walk-full : (s : List ℕ) → 0 < length s → walk 0 s ≡ stopped tooMany
-unfolding walk
-walk-full [] h = absurd (omega arith)
-walk-full (b ∷ s) h = refl
+  pub walk-full : (s : List ℕ) → 0 < length s → walkOver unit 0 s ≡ stopped tooMany
+  unfolding walkOver
+  walk-full [] h = absurd (omega arith)
+  walk-full (b ∷ s) h = refl
 
-walk-onward : (n : ℕ) (s : List ℕ) → 0 < length s → (o : Outcome) → storedAt s ≡ o → walk (suc n) s ≡ onward o (λ k. walk n (drop k s))
-unfolding walk
-walk-onward n [] h o e = absurd (omega arith)
-walk-onward n (b ∷ s) h o e = ap (λ (z : Outcome). onward z (λ k. walk n (drop k (b ∷ s)))) e
+  walk-some : (n b : ℕ) (s : List ℕ) → walkOver unit (suc n) (b ∷ s) ≡ onward (unit (b ∷ s)) (λ k. walkOver unit n (drop k (b ∷ s)))
+  unfolding walkOver
+  walk-some n b s = refl
 
-module _ (n : ℕ) (s : List ℕ) (h : 0 < length s) where
-  pub walk-refused : (x : ℕ) → storedAt s ≡ refused x → walk (suc n) s ≡ stopped x
-  unfolding onward
-  walk-refused x e = walk-onward n s h (refused x) e
+  module _ (n : ℕ) (s : List ℕ) (h : 0 < length s) where
+    walk-onward : (o : Step) → unit s ≡ o → walkOver unit (suc n) s ≡ onward o (λ k. walkOver unit n (drop k s))
+    walk-onward o e = go s h e
+      where
+        go : (t : List ℕ) → 0 < length t → unit t ≡ o → walkOver unit (suc n) t ≡ onward o (λ k. walkOver unit n (drop k t))
+        go [] z q = absurd (omega arith)
+        go (b ∷ t) z q = walk-some n b t ∙ ap (λ (x : Step). onward x (λ k. walkOver unit n (drop k (b ∷ t)))) q
 
-  pub walk-empty : storedAt s ≡ empty → walk (suc n) s ≡ ahead 1 1 (walk n (drop 1 s))
-  unfolding onward
-  walk-empty e = walk-onward n s h empty e
+    pub walk-stops : (x : ℕ) → unit s ≡ stops x → walkOver unit (suc n) s ≡ stopped x
+    unfolding onward
+    walk-stops x e = walk-onward (stops x) e
 
-  pub walk-sound : (mode : ℕ) (x : Frame) → storedAt s ≡ sound mode x
-      → walk (suc n) s ≡ ahead 1 (modeBytes mode + 1) (walk n (drop (modeBytes mode + 1) s))
-  unfolding onward
-  walk-sound mode x e = walk-onward n s h (sound mode x) e
+    pub walk-passes : (k : ℕ) → unit s ≡ passes k → walkOver unit (suc n) s ≡ ahead 1 k (walkOver unit n (drop k s))
+    unfolding onward
+    walk-passes k e = walk-onward (passes k) e
+
+-- two units that agree everywhere are walked alike
+pub walk-same : (u v : List ℕ → Step) → ((s : List ℕ) → u s ≡ v s) → (n : ℕ) (s : List ℕ) → walkOver u n s ≡ walkOver v n s
+unfolding walkOver onward
+walk-same u v e zero [] = refl
+walk-same u v e zero (b ∷ s) = refl
+walk-same u v e (suc n) [] = refl
+walk-same u v e (suc n) (b ∷ s) = ap (λ (x : Step). onward x (λ k. walkOver u n (drop k (b ∷ s)))) (e (b ∷ s)) ∙ go (v (b ∷ s)) (λ t. walk-same u v e n t)
+  where
+    go : (x : Step) → ((t : List ℕ) → walkOver u n t ≡ walkOver v n t) → onward x (λ k. walkOver u n (drop k (b ∷ s))) ≡ onward x (λ k. walkOver v n (drop k (b ∷ s)))
+    go (stops x) h = refl
+    go (passes k) h = ap (ahead 1 k) (h (drop k (b ∷ s)))

@@ -1,16 +1,32 @@
-// The file check (01, File check): every frame of a recording read in full, its sound frames counted and held against a booking.
+// The file check (01, File check): every frame of a recording read in full, its sound frames counted and held against a booking. One walk serves
+// one channel and several: it goes from block to block, and with one channel a block is a frame (02, No. 2).
 ghost use mathlib.Core.Path.{_≡_};
+ghost use Prim.Native.Nat.{_≤_};
 ghost use Rattle.recording.specs.Walk.{madeCheck, isSound, checkOf};
+ghost use Rattle.recording.specs.Blocks.{isCount, replyBehind, blockStep, passingOf, walkBlocks, checkBlocks};
 use answer::Check;
+use answer::Passing;
+use ground::replies::CUT;
 use ground::replies::DONE;
+use ground::replies::NO_BYTE;
 use ground::replies::NO_DATA;
 use ground::replies::NOT_AS_BOOKED;
 use ground::replies::TOO_MANY;
 
 pub mod answer;
 
-// The most sound frames of a recording.
-const MOST_FRAMES: u32 = 3000;
+// The most sound blocks of a recording.
+const MOST_BLOCKS: u32 = 3000;
+
+// Whether a recording may have so many channels: 1 to 8.
+pub fn is_count(channels: usize) -> bool
+    ensures { λ r. ⌜ r ≡ isCount channels ⌝ }
+{
+    if channels == 0 {
+        return false;
+    }
+    channels < 9
+}
 
 fn made_check(reply: u8, count: u32, place: usize) -> Check
     ensures { λ c. ⌜ c ≡ madeCheck reply count place ⌝ }
@@ -32,28 +48,85 @@ fn is_sound(reply: u8) -> bool
     reply == DONE
 }
 
-// Checks a recording: stops at a frame that is not sound, with its number; 15 for a byte after 3,000 frames; at the end 11 if the count is not as booked.
-pub fn check(src: &[u8], booking: u32) -> Check
-    ensures { λ c. ⌜ c ≡ checkOf (now (src .entry)) booking ⌝ }
+// The number of a frame behind so many others of its block: a missing one is cut off.
+fn reply_behind(frames: usize, reply: u8) -> u8
+    ensures { λ r. ⌜ r ≡ replyBehind frames reply ⌝ }
 {
-    let mut codes = [0u16; 800];
-    let mut tail = [0u8; 320];
+    if frames == 0 {
+        return reply;
+    }
+    if reply == NO_BYTE {
+        return CUT;
+    }
+    reply
+}
+
+// Passes the block at the start of a slice: each of its frames is read in full, and the first that is not sound stops it.
+pub fn pass_block(src: &[u8], channels: usize) -> Passing
+    ensures { λ p. ⌜ p ≡ passingOf (blockStep channels (now (src .entry))) ⌝ }
+{
+    let mut at: usize = 0;
+    let mut c: usize = 0;
+    while c < channels {
+        let one = frame::read_record(&src[at..]);
+        let reply = one.reply;
+        if !is_sound(reply) {
+            return Passing {
+                reply: reply_behind(c, reply),
+                next: 0,
+            };
+        }
+        at += one.next;
+        c += 1;
+    }
+    Passing {
+        reply: DONE,
+        next: at,
+    }
+}
+
+// Walks over a recording of several channels: stops at a block that is not sound, with the number of its frame; 15 for a byte after 3,000 blocks; 0 at
+// the end.
+pub fn walk_blocks(src: &[u8], channels: usize) -> Check
+    requires { ⌜ 1 ≤ channels ⌝ }
+    ensures { λ c. ⌜ c ≡ walkBlocks channels (now (src .entry)) ⌝ }
+{
     let mut at: usize = 0;
     let mut count: u32 = 0;
     while at < src.len() {
-        if count == MOST_FRAMES {
+        if count == MOST_BLOCKS {
             return made_check(TOO_MANY, count, at);
         }
-        let one = frame::read(&src[at..], &mut codes, &mut tail);
+        let one = pass_block(&src[at..], channels);
         let reply = one.reply;
-        if !is_sound(reply) {
+        if reply != DONE {
             return made_check(reply, count, at);
         }
         at += one.next;
         count += 1;
     }
-    if count != booking {
-        return made_check(NOT_AS_BOOKED, count, at);
-    }
     made_check(DONE, count, at)
+}
+
+// Checks a recording of several channels: what the walk says, and at the end 11 if the count of blocks is not as booked.
+pub fn check_blocks(src: &[u8], channels: usize, booking: u32) -> Check
+    requires { ⌜ 1 ≤ channels ⌝ }
+    ensures { λ c. ⌜ c ≡ checkBlocks channels (now (src .entry)) booking ⌝ }
+{
+    let found = walk_blocks(src, channels);
+    let reply = found.reply;
+    let count = found.count;
+    if reply == DONE {
+        if count != booking {
+            return made_check(NOT_AS_BOOKED, count, found.place);
+        }
+    }
+    found
+}
+
+// Checks a recording of one channel, frame by frame.
+pub fn check(src: &[u8], booking: u32) -> Check
+    ensures { λ c. ⌜ c ≡ checkOf (now (src .entry)) booking ⌝ }
+{
+    check_blocks(src, 1, booking)
 }

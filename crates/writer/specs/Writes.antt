@@ -11,7 +11,7 @@ use borrow.Author.Tests.{lt-ltb, le-ltb, eq-eqb, ne-eqb, ltb-true, ltb-false, le
 use Rattle.ground.specs.Cases.{by-bool}
 use Rattle.ground.specs.Replies.{done, outOfRange, shortRoom, wrongTail}
 use Rattle.bits.specs.Bits.{view, bytesOf}
-use Rattle.prefix.specs.Sizes.{modeBytes}
+use Rattle.prefix.specs.Sizes.{modeBytes, mode-bounds}
 use Rattle.prefix.specs.Prefix.{byteWith}
 use Rattle.frame.specs.Layout.{Frame, frame}
 use Rattle.frame.specs.declared.Record.{Record}
@@ -137,6 +137,15 @@ pub reply-late : (r : Record) (cs ts : List ℕ) (room x y : ℕ) → x ≡ room
     → y ≡ lateReply (layoutOf r cs) ts (r .«tail_bits») → y ≡ writeReply r cs ts room
 unfolding writeReply
 reply-late r cs ts room x y e n q = rw (← e, eq-eqb x 0 n) q
+
+-- room past the body is as good as room for the longest frame
+pub reply-roomy : (r : Record) (cs ts : List ℕ) (room : ℕ) → modeBytes (r .mode) < room → writeReply r cs ts 321 ≡ writeReply r cs ts room
+unfolding writeReply roomReply
+reply-roomy r cs ts room h =
+    by-bool (ltb 19 (r .mode)) (λ a. rw a)
+    (λ a.
+    let b = mode-bounds (r .mode) (omega (arith, ltb-false 19 (r .mode) a)) in
+    rw (a, le-ltb 321 (modeBytes (r .mode) + 1) (omega (arith, b .1)), le-ltb room (modeBytes (r .mode) + 1) (omega arith)))
 
 -- ---- what a reply of 0 for the rooms tells
 

@@ -267,6 +267,17 @@ fn late_reply(parts: Parts, tail: &[u8], count: u16) -> u8
     WRONG_TAIL
 }
 
+// What `write` would answer, with so many bytes of room, without writing: 8 for the mode, 10, the other causes of 8, 9, 12, 7, 13.
+pub fn write_reply(r: Record, codes: &[u16], tail: &[u8], room: usize) -> u8
+    ensures { λ x. ⌜ x ≡ writeReply r (now (codes .entry)) (now (tail .entry)) room ⌝ }
+{
+    let early = room_reply(r, codes.len(), tail.len(), room);
+    if early != DONE {
+        return early;
+    }
+    late_reply(layout(r, codes), tail, r.tail_bits)
+}
+
 fn bit(b: bool) -> usize
     ensures { λ r. ⌜ (r ≡ num b) × (r ≤ 1) ⌝ }
 {

@@ -1,12 +1,13 @@
 -- `frame::read_data` meets its contract: the body as long as the field says, of the mode that it names. Assumes nothing.
 use mathlib.Core.Path.{_≡_, sym, ap, ap₂, _∙_}
 use native.Mathlib.Omega.{arith}
-use Prim.Native.Nat.{_-_, _<_}
+use Prim.Native.Nat.{_-_}
 use denote.Ref.{now}
 use lib.ListN.{length}
 use Rattle.prefix.specs.Sizes.{modeBytes}
-use Rattle.frame.specs.Answers.{readingOf, codesAfter, tailAfter, readBody, started}
+use Rattle.frame.specs.Answers.{readingOf, readBody}
 use Rattle.frame.specs.Reads.{data-cut, data-whole, field-sized, field-mode, field-named, body-part, length-body}
+use Rattle.frame.proofs.Bodies.{frame-stops, frame-told}
 use borrow.Author.Needs.{needs}
 use Rattle.frame.proofs.read_data.Statement.{statement}
 use Rattle.frame.proofs.read_data.Tie as tie
@@ -15,8 +16,7 @@ returns : tie.Need-returns
 returns c =
     let b : tie.After-bytes = search in
     let a : tie.Start = search in
-    let r = data-cut (now (a .args .src)) (a .args .field) _ (b .bytes .ensures) (search) in
-    (c .refusal .ensures ∙ ap readingOf (sym r), ap (codesAfter (now (a .args .codes))) (sym r), ap (tailAfter (now (a .args .tail))) (sym r))
+    frame-stops (ap readingOf (data-cut (now (a .args .src)) (a .args .field) _ (b .bytes .ensures) (search))) (λ z. omega arith) (c .refusal .ensures)
 
 -- the field of a prefix that says data names a mode
 returns-2 : tie.Need-returns-2
@@ -40,7 +40,7 @@ read-body-requires c κs =
     let s = now (a .args .src) in
     let z = field-sized s (a .args .field) _ (a .pre .0) (b .bytes .ensures) in
     let l = ap length (body-part s _ (e .if1 .left)) ∙ length-body s _ (e .if1 .left) in
-    ((omega (arith, l, z .least), omega (arith, l, z .most), l ∙ z .mode ∙ ap modeBytes (sym (mode-is (search)))), a .pre .1)
+    (omega (arith, l, z .least), omega (arith, l, z .most), l ∙ z .mode ∙ ap modeBytes (sym (mode-is (search))), a .pre .1)
 
 returns-3 : tie.Need-returns-3
 returns-3 c =
@@ -50,8 +50,8 @@ returns-3 c =
     let b : tie.After-bytes = search in
     let a : tie.Start = search in
     let s = now (a .args .src) in
-    let q = ap₂ readBody (mode-is n) (body-part s _ (e .if1 .left)) ∙ sym (data-whole s (a .args .field) _ (b .bytes .ensures) (e .if1 .left)) in
-    (r .read-body .ensures .0 ∙ ap readingOf q, r .read-body .ensures .1 ∙ ap (codesAfter (now (a .args .codes))) q, r .read-body .ensures .2 ∙ ap (tailAfter (now (a .args .tail))) q)
+    let p = body-part s _ (e .if1 .left) in
+    frame-told _ (e .if1 .left) p (ap₂ readBody (mode-is n) p ∙ sym (data-whole s (a .args .field) _ (b .bytes .ensures) (e .if1 .left))) (r .read-body .ensures)
 
 pub read-data-spec : {M : Type 1} → statement M
 read-data-spec =
@@ -71,6 +71,5 @@ read-data-spec =
     (λ c κs. search needs)
     returns-2
     read-body-requires
-    (λ c. search needs)
     (λ c. search needs)
     returns-3)

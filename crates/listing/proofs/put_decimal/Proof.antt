@@ -5,7 +5,7 @@ use Prim.Native.Nat.{ℕ}
 use native.Mathlib.Omega.{arith}
 use denote.Ref.{now}
 use lib.ListN.{length}
-use Rattle.listing.specs.Laying.{Laid}
+use Rattle.ground.specs.Laying.{Laid}
 use Rattle.listing.specs.Numbers.{length-digits}
 use borrow.Author.Needs.{needs}
 use Rattle.listing.proofs.put_decimal.Statement.{statement}

@@ -5,7 +5,7 @@ use native.Mathlib.Omega.{arith}
 use denote.Ref.{now}
 use lib.ListN.{length}
 use Rattle.listing.specs.Text.{decimal, frameLine}
-use Rattle.listing.specs.Laying.{Laid, laid-long, then}
+use Rattle.ground.specs.Laying.{Laid, laid-long, then}
 use Rattle.listing.specs.Numbers.{length-digits, length-line}
 use borrow.Author.Needs.{needs}
 use Rattle.listing.proofs.put_line.Statement.{statement}

@@ -5,7 +5,7 @@ use Prim.Native.Nat.{_-_}
 use native.Mathlib.Omega.{arith}
 use denote.Ref.{now}
 use lib.ListN.{length}
-use Rattle.listing.specs.Laying.{laid-long}
+use Rattle.ground.specs.Laying.{laid-long}
 use Rattle.listing.specs.Turns.{Listed, Complete, listed-none, listed-full, listed-end, listed-small, listed-room, listed-stop, listed-more}
 use Rattle.listing.proofs.put_lines.Statement.{statement}
 use Rattle.listing.proofs.put_lines.Tie as tie
