@@ -1,0 +1,24 @@
+-- `channels_run::run_extract` stays within the text: each list begins where the one before it ended, and each lent part is no longer than what was filled. Assumes nothing.
+use mathlib.Core.Path.{sym}
+use lib.Seq.{length-take-le}
+use native.Mathlib.Omega.{arith}
+use borrow.Author.Needs.{needs}
+use Rattle.channels_run.proofs.run_extract.Statement.{statement}
+use Rattle.channels_run.proofs.run_extract.Tie as tie
+
+pub run-extract-spec : {M : Type 1} → statement M
+run-extract-spec =
+    tie.close
+    (tie.spec
+    (λ c. search needs)
+    (λ c κs. search needs)
+    (λ c. search needs)
+    (λ c κs. search needs)
+    (λ c. search needs)
+    (λ c κs. search needs)
+    (λ c. search needs)
+    (λ c. let f : tie.After-fill-bytes = search in sym (length-take-le (f .fill-bytes .result .count) (f .fill-bytes .last .1 .1 .0) (omega arith)))
+    (λ c. search needs)
+    (λ c. let f : tie.After-fill-bytes2 = search in sym (length-take-le (f .fill-bytes2 .result .count) (f .fill-bytes2 .last .1 .1 .0) (omega arith)))
+    (λ c κs. search needs)
+    (λ c. search needs))

@@ -1,0 +1,20 @@
+-- `channels_run::run_read` stays within the text, and the lent part is no longer than what was filled. Assumes nothing.
+use mathlib.Core.Path.{sym}
+use lib.Seq.{length-take-le}
+use native.Mathlib.Omega.{arith}
+use borrow.Author.Needs.{needs}
+use Rattle.channels_run.proofs.run_read.Statement.{statement}
+use Rattle.channels_run.proofs.run_read.Tie as tie
+
+pub run-read-spec : {M : Type 1} → statement M
+run-read-spec =
+    tie.close
+    (tie.spec
+    (λ c. search needs)
+    (λ c κs. search needs)
+    (λ c. search needs)
+    (λ c κs. search needs)
+    (λ c. search needs)
+    (λ c. let f : tie.After-fill-bytes = search in sym (length-take-le (f .fill-bytes .result .count) (f .fill-bytes .last .1 .1 .0) (omega arith)))
+    (λ c κs. search needs)
+    (λ c. search needs))
