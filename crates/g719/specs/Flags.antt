@@ -1,12 +1,17 @@
 -- Flags at the C boundary: a number that comes in is true unless it is 0, and a flag that goes out is 0 or 1.
 -- Assumes nothing.
 use mathlib.Core.Bool.{Bool, cond, not}
+use mathlib.Core.List.{map}
 use Prim.Native.Nat.{ℕ}
 use lib.Dec.{eqb}
 use Rattle.norms.specs.declared.Choice as norms
 use Rattle.frame.specs.declared.Record as frame
 use Rattle.frame.specs.declared.Reading as read
+use Rattle.blocks.specs.declared.reading.Block as block
+use Rattle.blocks.specs.declared.writing.Records as written
 use Rattle.g719.specs.declared.Record.{Record}
+use Rattle.g719.specs.declared.Block.{Block}
+use Rattle.g719.specs.declared.Records.{Records}
 use Rattle.g719.specs.declared.Reading.{Reading}
 use Rattle.g719.specs.declared.Choice.{Choice}
 
@@ -47,3 +52,10 @@ readingOut r = record { reply = r .reply; next = r .next; «record» = recordOut
 
 unfoldable pub choiceOut : norms.Choice → Choice
 choiceOut c = record { reply = c .reply; flag = flagOut (c .flag) }
+
+-- a block's readings, and what a block is written from
+unfoldable pub blockOut : block.Block → Block
+blockOut b = record { reply = b .reply; next = b .next; frames = map readingOut (b .frames) }
+
+unfoldable pub recordsIn : Records → written.Records
+recordsIn r = record { at = map recordIn (r .at); empty = map flagIn (r .empty) }

@@ -1,5 +1,6 @@
 // The C interface (include/g719.h): each public call under a C name, with the whole promise of the call that it hands on to.
 ghost use mathlib.Core.Path.{_≡_};
+ghost use mathlib.Core.List.{map};
 ghost use lib.ListN.{length};
 ghost use Rattle.prefix.specs.Prefix.{prefixOf, byteOf};
 ghost use Rattle.norms.specs.Answers.{choiceOf as flagN, legalised};
@@ -13,9 +14,13 @@ ghost use Rattle.writer.specs.Writes.{writeReply, writingOf, outAfter};
 ghost use Rattle.writer.specs.Empty.{emptyReply, emptyAfter};
 ghost use Rattle.writer.specs.Choice.{choiceOf as flagC};
 ghost use Rattle.recording.specs.Walk.{checkOf};
+ghost use Rattle.blocks.specs.Reading as blockRead;
+ghost use Rattle.blocks.specs.Writing as blockWritten;
+ghost use Rattle.channels.specs.Copies.{checkAnswer, extractAnswer, extractAfter, joinAnswer, joinAfter};
 ghost use Rattle.g719.specs.Numbers.{prefixNumbers, byteNumbers};
-ghost use Rattle.g719.specs.Flags.{flagIn, flagOut, recordIn, recordOut, readingOut, choiceOut};
+ghost use Rattle.g719.specs.Flags.{flagIn, flagOut, recordIn, recordOut, readingOut, choiceOut, blockOut, recordsIn};
 use allotment::Shares;
+use channels::Copied;
 use codebook::Row;
 use ground::replies::DONE;
 use ground::replies::MARKED;
@@ -67,6 +72,21 @@ pub struct Reading {
     pub reply: u8,
     pub next: usize,
     pub record: Record,
+}
+
+// What reading a block answers, as C has it.
+#[repr(C)]
+pub struct Block {
+    pub reply: u8,
+    pub next: usize,
+    pub frames: [Reading; 8],
+}
+
+// What a block is written from, as C has it: an empty frame where the number is not 0.
+#[repr(C)]
+pub struct Records {
+    pub at: [Record; 8],
+    pub empty: [u8; 8],
 }
 
 // What a choice answers, as C has it: the flag is 0 or 1.
@@ -130,6 +150,54 @@ fn reading_out(r: frame::Reading) -> Reading
         reply: r.reply,
         next: r.next,
         record: record_out(record),
+    }
+}
+
+fn block_out(b: blocks::reading::Block) -> Block
+    ensures { λ x. ⌜ x ≡ blockOut b ⌝ }
+{
+    let list = b.frames;
+    let none = reading_out(list[0]);
+    let mut frames = [none; 8];
+    let mut c: usize = 0;
+    while c < 8 {
+        frames[c] = reading_out(list[c]);
+        c += 1;
+    }
+    Block {
+        reply: b.reply,
+        next: b.next,
+        frames,
+    }
+}
+
+fn flags_in(numbers: [u8; 8]) -> [bool; 8]
+    ensures { λ x. ⌜ x ≡ map flagIn numbers ⌝ }
+{
+    let mut flags = [false; 8];
+    let mut c: usize = 0;
+    while c < 8 {
+        flags[c] = flag_in(numbers[c]);
+        c += 1;
+    }
+    flags
+}
+
+fn records_in(r: Records) -> blocks::writing::Records
+    ensures { λ x. ⌜ x ≡ recordsIn r ⌝ }
+{
+    let list = r.at;
+    let numbers = r.empty;
+    let none = record_in(list[0]);
+    let mut at = [none; 8];
+    let mut c: usize = 0;
+    while c < 8 {
+        at[c] = record_in(list[c]);
+        c += 1;
+    }
+    blocks::writing::Records {
+        at,
+        empty: flags_in(numbers),
     }
 }
 
@@ -302,4 +370,55 @@ pub extern "C" fn g719_check_file(src: &[u8], booking: u32) -> Check
     ensures { λ r. ⌜ r ≡ checkOf (now (src .entry)) booking ⌝ }
 {
     recording::check(src, booking)
+}
+
+#[no_mangle]
+pub extern "C" fn g719_read_block(
+    src: &[u8],
+    channels: u8,
+    codes: &mut [u16],
+    tails: &mut [u8],
+) -> Block
+    ensures { λ b. ⌜ (b ≡ blockOut (blockRead.blockAnswer (blockRead.blockReply (now (src .entry)) channels (length (now (codes .entry))) (length (now (tails .entry)))) (now (src .entry)) channels))
+        × (now (codes .exit) ≡ blockRead.codesAfter (blockRead.blockReply (now (src .entry)) channels (length (now (codes .entry))) (length (now (tails .entry)))) (now (src .entry)) channels (now (codes .entry)))
+        × (now (tails .exit) ≡ blockRead.tailsAfter (blockRead.blockReply (now (src .entry)) channels (length (now (codes .entry))) (length (now (tails .entry)))) (now (src .entry)) channels (now (tails .entry))) ⌝ }
+{
+    block_out(blocks::reading::read_block(src, channels, codes, tails))
+}
+
+#[no_mangle]
+pub extern "C" fn g719_write_block(
+    records: Records,
+    channels: u8,
+    codes: &[u16],
+    tails: &[u8],
+    out: &mut [u8],
+) -> Writing
+    ensures { λ w. ⌜ (w ≡ blockWritten.blockAnswer (blockWritten.blockReply (recordsIn records) channels (now (codes .entry)) (now (tails .entry)) (length (now (out .entry)))) (recordsIn records) channels (now (codes .entry)) (now (tails .entry)))
+        × (now (out .exit) ≡ blockWritten.outAfter (blockWritten.blockReply (recordsIn records) channels (now (codes .entry)) (now (tails .entry)) (length (now (out .entry)))) (recordsIn records) channels (now (codes .entry)) (now (tails .entry)) (now (out .entry))) ⌝ }
+{
+    blocks::writing::write_block(records_in(records), channels, codes, tails, out)
+}
+
+#[no_mangle]
+pub extern "C" fn g719_check_blocks(src: &[u8], channels: u8, booking: u32) -> Check
+    ensures { λ r. ⌜ r ≡ checkAnswer (now (src .entry)) channels booking ⌝ }
+{
+    channels::check_blocks(src, channels, booking)
+}
+
+#[no_mangle]
+pub extern "C" fn g719_extract(src: &[u8], channels: u8, channel: u8, out: &mut [u8]) -> Copied
+    ensures { λ c. ⌜ (c ≡ extractAnswer (now (src .entry)) channels channel (length (now (out .entry))))
+        × (now (out .exit) ≡ extractAfter (now (src .entry)) channels channel (now (out .entry))) ⌝ }
+{
+    channels::extracting::extract(src, channels, channel, out)
+}
+
+#[no_mangle]
+pub extern "C" fn g719_join(src: &[u8], lengths: &[u32], out: &mut [u8]) -> Copied
+    ensures { λ c. ⌜ (c ≡ joinAnswer (now (src .entry)) (now (lengths .entry)) (length (now (out .entry))))
+        × (now (out .exit) ≡ joinAfter (now (src .entry)) (now (lengths .entry)) (now (out .entry))) ⌝ }
+{
+    channels::joining::join(src, lengths, out)
 }

@@ -58,9 +58,20 @@ use Rattle.writer.specs.declared.Parts.{Parts}
 use Rattle.writer.specs.declared.Writing.{Writing as Written}
 use Rattle.listing.specs.Listing.{listedIn, outAfter as listed}
 use Rattle.listing.specs.declared.Listing.{Listing}
-use Rattle.recording.specs.Walk.{walk, booked, mostFrames, checkOf}
+use Rattle.recording.specs.Walk.{walk, booked, mostFrames, checkOver, checkOf}
 use Rattle.recording.specs.declared.answer.Check.{Check}
 use Rattle.recording.specs.Checked.{Number, check-replies}
+use Rattle.recording.specs.Frames.{Frames, frame-lawful}
+use Rattle.recording.specs.Units.{Told, Stop, ended, passed, met, walk-told}
+use Rattle.recording.specs.Blocks.{isCount, blockStep, walkBlocks, checkBlocks}
+use Rattle.recording.proofs.BlockLaws.{block-lawful, counted}
+use Rattle.blocks.specs.Reading as blockRead
+use Rattle.blocks.specs.Writing as blockWritten
+use Rattle.blocks.specs.declared.writing.Records.{Records}
+use Rattle.blocks.proofs.ReplyNumbers.{read-numbers, write-numbers}
+use Rattle.channels.specs.Copies.{checkAnswer, extracted, isAmong, extractAnswer, extractAfter, startOf, recordingAt, ownCheck, refusedIn, equalCounts, checkAll, joinedOf, joinAnswer, joinAfter, copiedTo}
+use Rattle.channels.specs.declared.Copied.{Copied}
+use Rattle.channels.proofs.ExtractLaws.{among-told}
 use Rattle.writer.specs.Empty.{emptyAfter}
 use Rattle.writer.specs.Writes.{writingOf}
 use Rattle.promises.specs.Numbers.{among, OneOf, picked}
@@ -177,27 +188,118 @@ layout-number r codes = layout-among (0 ∷ 7 ∷ 8 ∷ 9 ∷ 10 ∷ 12 ∷ []) 
 abbrev checking : List ℕ
 checking = 0 ∷ 2 ∷ 3 ∷ 4 ∷ 5 ∷ 6 ∷ 7 ∷ 11 ∷ 15 ∷ []
 
-two-to-seven : (x : ℕ) → 2 ≤ x → x ≤ 7 → OneOf checking x
-unfolding among
-two-to-seven zero l h = absurd (omega arith)
-two-to-seven (suc zero) l h = absurd (omega arith)
-two-to-seven (suc (suc zero)) l h = tt
-two-to-seven (suc (suc (suc zero))) l h = tt
-two-to-seven (suc (suc (suc (suc zero)))) l h = tt
-two-to-seven (suc (suc (suc (suc (suc zero))))) l h = tt
-two-to-seven (suc (suc (suc (suc (suc (suc zero)))))) l h = tt
-two-to-seven (suc (suc (suc (suc (suc (suc (suc zero))))))) l h = tt
-two-to-seven (suc (suc (suc (suc (suc (suc (suc (suc x)))))))) l h = absurd (omega arith)
+-- a list that has 0, 2 to 7, 11 and 15 has every number of a check
+two-to-seven : (xs : List ℕ) → OneOf xs 2 → OneOf xs 3 → OneOf xs 4 → OneOf xs 5 → OneOf xs 6 → OneOf xs 7 → (x : ℕ) → 2 ≤ x → x ≤ 7 → OneOf xs x
+two-to-seven xs a b c d e f zero l h = absurd (omega arith)
+two-to-seven xs a b c d e f (suc zero) l h = absurd (omega arith)
+two-to-seven xs a b c d e f (suc (suc zero)) l h = a
+two-to-seven xs a b c d e f (suc (suc (suc zero))) l h = b
+two-to-seven xs a b c d e f (suc (suc (suc (suc zero)))) l h = c
+two-to-seven xs a b c d e f (suc (suc (suc (suc (suc zero))))) l h = d
+two-to-seven xs a b c d e f (suc (suc (suc (suc (suc (suc zero)))))) l h = e
+two-to-seven xs a b c d e f (suc (suc (suc (suc (suc (suc (suc zero))))))) l h = f
+two-to-seven xs a b c d e f (suc (suc (suc (suc (suc (suc (suc (suc x)))))))) l h = absurd (omega arith)
 
-number-one : (x : ℕ) → Number x → OneOf checking x
-unfolding among
-number-one x (inl e) = subst (OneOf checking) (sym e) tt
-number-one x (inr (inl e)) = two-to-seven x (e .0) (e .1)
-number-one x (inr (inr (inl e))) = subst (OneOf checking) (sym e) tt
-number-one x (inr (inr (inr e))) = subst (OneOf checking) (sym e) tt
+number-one : (xs : List ℕ) → OneOf xs 0 → OneOf xs 2 → OneOf xs 3 → OneOf xs 4 → OneOf xs 5 → OneOf xs 6 → OneOf xs 7 → OneOf xs 11 → OneOf xs 15 → (x : ℕ) → Number x → OneOf xs x
+number-one xs z a b c d e f u m x (inl q) = subst (OneOf xs) (sym q) z
+number-one xs z a b c d e f u m x (inr (inl q)) = two-to-seven xs a b c d e f x (q .0) (q .1)
+number-one xs z a b c d e f u m x (inr (inr (inl q))) = subst (OneOf xs) (sym q) u
+number-one xs z a b c d e f u m x (inr (inr (inr q))) = subst (OneOf xs) (sym q) m
+
+-- the walk of a check before its booking: the same numbers but 11
+walk-number : (xs : List ℕ) → OneOf xs 0 → OneOf xs 2 → OneOf xs 3 → OneOf xs 4 → OneOf xs 5 → OneOf xs 6 → OneOf xs 7 → OneOf xs 15
+    → (channels : ℕ) → 1 ≤ channels → (src : List ℕ) → OneOf xs (walkBlocks channels src .reply)
+walk-number xs z a b c d e f m channels h src = go (t .stop)
+  where
+    t : Told (blockStep channels) (Frames channels) mostFrames src (walkBlocks channels src)
+    t = walk-told (block-lawful channels h) mostFrames src
+
+    go : Stop (blockStep channels) mostFrames (t .rest) (walkBlocks channels src) → OneOf xs (walkBlocks channels src .reply)
+    go (ended r q) = subst (OneOf xs) (sym r) z
+    go (passed r q l) = subst (OneOf xs) (sym r) m
+    go (met l k r) = let y = block-lawful channels h .number (t .rest) (walkBlocks channels src .reply) l r in two-to-seven xs a b c d e f _ (y .0) (y .1)
 
 pub check-number : (src : List ℕ) (booking : ℕ) → OneOf checking (checkOf src booking .reply)
-check-number src booking = number-one (checkOf src booking .reply) (check-replies src booking)
+unfolding among
+check-number src booking = number-one checking tt tt tt tt tt tt tt tt tt (checkOf src booking .reply) (check-replies frame-lawful src booking)
+
+-- ---- blocks of several channels: reading 0–7, 10, 17; writing 0, 7, 8, 9, 10, 12, 13, 17; the check as of a recording, and 17
+
+pub read-block-number : (src : List ℕ) (channels codes tails : ℕ) → OneOf (0 ∷ 1 ∷ 2 ∷ 3 ∷ 4 ∷ 5 ∷ 6 ∷ 7 ∷ 10 ∷ 17 ∷ []) (blockRead.blockReply src channels codes tails)
+unfolding among
+read-block-number = read-numbers (OneOf (0 ∷ 1 ∷ 2 ∷ 3 ∷ 4 ∷ 5 ∷ 6 ∷ 7 ∷ 10 ∷ 17 ∷ [])) tt tt tt tt tt tt tt tt tt tt
+
+pub read-block-keeps : (reply : ℕ) (src : List ℕ) (channels : ℕ) (codes tails : List ℕ) → (reply ≡ 0 → ⊥)
+    → (blockRead.codesAfter reply src channels codes ≡ codes) × (blockRead.tailsAfter reply src channels tails ≡ tails)
+read-block-keeps reply src channels codes tails n = (rw (ne-eqb reply 0 n), rw (ne-eqb reply 0 n))
+
+pub write-block-number : (r : Records) (channels : ℕ) (codes tails : List ℕ) (room : ℕ) → OneOf (0 ∷ 7 ∷ 8 ∷ 9 ∷ 10 ∷ 12 ∷ 13 ∷ 17 ∷ []) (blockWritten.blockReply r channels codes tails room)
+unfolding among
+write-block-number = write-numbers (OneOf (0 ∷ 7 ∷ 8 ∷ 9 ∷ 10 ∷ 12 ∷ 13 ∷ 17 ∷ [])) tt tt tt tt tt tt tt tt
+
+pub write-block-keeps : (reply : ℕ) (r : Records) (channels : ℕ) (codes tails out : List ℕ) → (reply ≡ 0 → ⊥) → blockWritten.outAfter reply r channels codes tails out ≡ out
+write-block-keeps reply r channels codes tails out n = rw (ne-eqb reply 0 n)
+
+-- any other answer than 0 is its number and zeros
+pub read-block-zeros : (reply : ℕ) (src : List ℕ) (channels : ℕ) → (reply ≡ 0 → ⊥) → blockRead.blockAnswer reply src channels ≡ blockRead.noBlock reply
+read-block-zeros reply src channels n = rw (ne-eqb reply 0 n) refl
+
+pub write-block-zeros : (reply : ℕ) (r : Records) (channels : ℕ) (codes tails : List ℕ) → (reply ≡ 0 → ⊥)
+    → blockWritten.blockAnswer reply r channels codes tails ≡ record { reply = reply; next = 0 }
+write-block-zeros reply r channels codes tails n = rw (ne-eqb reply 0 n) refl
+
+abbrev blockChecking : List ℕ
+blockChecking = 0 ∷ 2 ∷ 3 ∷ 4 ∷ 5 ∷ 6 ∷ 7 ∷ 11 ∷ 15 ∷ 17 ∷ []
+
+pub check-blocks-number : (src : List ℕ) (channels booking : ℕ) → OneOf blockChecking (checkAnswer src channels booking .reply)
+unfolding among checkAnswer
+check-blocks-number src channels booking =
+    by-bool (isCount channels)
+    (λ t. rw t (number-one blockChecking tt tt tt tt tt tt tt tt tt (checkBlocks channels src booking .reply) (check-replies (block-lawful channels (counted channels t .0)) src booking)))
+    (λ t. rw t tt)
+
+-- ---- a channel taken out, recordings joined: 0, 2 to 7, 10, 15, 17
+
+abbrev copying : List ℕ
+copying = 0 ∷ 2 ∷ 3 ∷ 4 ∷ 5 ∷ 6 ∷ 7 ∷ 10 ∷ 15 ∷ 17 ∷ []
+
+pub extract-number : (src : List ℕ) (channels channel room : ℕ) → OneOf copying (extractAnswer src channels channel room .reply)
+unfolding among extractAnswer
+extract-number src channels channel room =
+    let w = walkBlocks channels src in
+    by-bool (isAmong channels channel)
+    (λ t.
+    rw t
+    (picked (λ (c : Copied). OneOf copying (c .reply)) (eqb (w .reply) 0) _ _
+    (picked (λ (c : Copied). OneOf copying (c .reply)) (ltb room (length (extracted channels channel (w .count) src))) _ _ tt tt)
+    (walk-number copying tt tt tt tt tt tt tt tt channels (among-told channels channel t .0) src)))
+    (λ t. rw t tt)
+
+pub extract-keeps : (src : List ℕ) (channels channel : ℕ) (out : List ℕ) → (extractAnswer src channels channel (length out) .reply ≡ 0 → ⊥) → extractAfter src channels channel out ≡ out
+extract-keeps src channels channel out n = rw (ne-eqb (extractAnswer src channels channel (length out) .reply) 0 n)
+
+refused-number : (src lengths : List ℕ) (n : ℕ) → OneOf copying (refusedIn (ownCheck src lengths) n .reply)
+unfolding among refusedIn
+refused-number src lengths zero = tt
+refused-number src lengths (suc n) =
+    picked (λ (c : Copied). OneOf copying (c .reply)) (eqb (refusedIn (ownCheck src lengths) n .reply) 0) _ _
+    (picked (λ (c : Copied). OneOf copying (c .reply)) (eqb (ownCheck src lengths n .reply) 0) _ _ tt (walk-number copying tt tt tt tt tt tt tt tt 1 (omega arith) (recordingAt src lengths n)))
+    (refused-number src lengths n)
+
+pub join-number : (src lengths : List ℕ) (room : ℕ) → OneOf copying (joinAnswer src lengths room .reply)
+unfolding among joinAnswer checkAll
+join-number src lengths room =
+    let w = ownCheck src lengths in
+    let n = length lengths in
+    picked (λ (c : Copied). OneOf copying (c .reply)) (isCount n) _ _
+    (picked (λ (c : Copied). OneOf copying (c .reply)) (ltb (length src) (startOf lengths n)) _ _ tt
+    (picked (λ (c : Copied). OneOf copying (c .reply)) (eqb (checkAll w n .reply) 0) _ _
+    (picked (λ (c : Copied). OneOf copying (c .reply)) (ltb room (length (joinedOf src lengths))) _ _ tt tt)
+    (picked (λ (c : Copied). OneOf copying (c .reply)) (eqb (refusedIn w n .reply) 0) _ _
+    (picked (λ (c : Copied). OneOf copying (c .reply)) (equalCounts w (w 0 .count) n) _ _ tt tt) (refused-number src lengths n)))) tt
+
+pub join-keeps : (src lengths out : List ℕ) → (joinAnswer src lengths (length out) .reply ≡ 0 → ⊥) → joinAfter src lengths out ≡ out
+join-keeps src lengths out n = rw (ne-eqb (joinAnswer src lengths (length out) .reply) 0 n)
 
 -- ---- a listing: 0, 10
 
@@ -459,7 +561,7 @@ list-zeros src room = picked ListingZeros (ltb room 33030) _ _ (λ n. refl) (λ 
 -- the file check keeps its count and its place on every reply: they are the walk's, whatever the booking
 pub check-keeps : (src : List ℕ) (booking : ℕ)
     → (checkOf src booking .count ≡ walk mostFrames src .count) × (checkOf src booking .place ≡ walk mostFrames src .place)
-unfolding checkOf booked
+unfolding checkOver booked
 check-keeps src booking =
     let w = walk mostFrames src in
     picked (λ (c : Check). (c .count ≡ w .count) × (c .place ≡ w .place)) (eqb (w .reply) 0) _ _

@@ -6,3 +6,4 @@ pub mod Unique
 pub mod Demand3
 pub mod Recordings
 pub mod Stars
+pub mod Channels

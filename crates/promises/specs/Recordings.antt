@@ -8,8 +8,8 @@ use Rattle.ground.specs.Replies.{done, cut, notAsBooked, tooMany}
 use Rattle.prefix.specs.Sizes.{modeBytes}
 use Rattle.frame.specs.Layout.{Frame}
 use Rattle.frame.specs.Answers.{sound}
-use Rattle.recording.specs.Walk.{storedAt, mostFrames, checkOf}
-use Rattle.recording.specs.Frames.{Frames}
+use Rattle.recording.specs.Walk.{storedAt, frameStep, mostFrames, checkOf}
+use Rattle.recording.specs.Frames.{Stored, Frames, frame-lawful}
 use Rattle.recording.specs.Checked as checked
 use Rattle.recording.specs.CutReport as cutting
 
@@ -27,14 +27,14 @@ cut-report = cutting.cut-report
 pub complete : (src : List ℕ) (booking : ℕ)
     → (checkOf src booking .reply ≡ done → Frames booking src × (booking ≤ mostFrames))
     × (Frames booking src → booking ≤ mostFrames → checkOf src booking .reply ≡ done)
-complete = checked.check-whole
+complete = checked.check-whole frame-lawful
 
 -- a cut between frames shows at the booking
 pub not-as-booked : (src : List ℕ) (booking : ℕ)
     → (checkOf src booking .reply ≡ notAsBooked → (k : ℕ) × Frames k src × (k ≤ mostFrames) × (k ≡ booking → ⊥))
     × ((k : ℕ) → Frames k src → k ≤ mostFrames → (k ≡ booking → ⊥) → checkOf src booking .reply ≡ notAsBooked)
-not-as-booked = checked.check-unbooked
+not-as-booked = checked.check-unbooked frame-lawful
 
 -- no count is invented: in front of the place stand exactly so many sound frames, and behind it what the number says
-pub no-invented-count : (src : List ℕ) (booking : ℕ) → checked.Checked src booking (checkOf src booking)
-no-invented-count = checked.check-told
+pub no-invented-count : (src : List ℕ) (booking : ℕ) → checked.Checked frameStep Stored src booking (checkOf src booking)
+no-invented-count = checked.check-told frame-lawful

@@ -24,6 +24,11 @@ use Rattle.writer.proofs.write.Reads as write
 use Rattle.writer.proofs.write_empty.Reads as write-empty
 use Rattle.writer.proofs.choice.choose_flag_c.Reads as choose-flag-c
 use Rattle.recording.proofs.check.Reads as check
+use Rattle.channels.proofs.check_blocks.Reads as check-blocks
+use Rattle.channels.proofs.extracting.extract.Reads as extract
+use Rattle.channels.proofs.joining.join.Reads as join
+use Rattle.blocks.proofs.reading.read_block.Reads as read-block
+use Rattle.blocks.proofs.writing.write_block.Reads as write-block
 use Rattle.listing.proofs.list.Reads as list
 
 -- a promise is one equation for the result and one for each slice that the call may change
@@ -94,6 +99,9 @@ one-codebook-index κs given r s rExit sExit p q = unique p q
 pub one-check : OneResult check.Post
 one-check κs given r s rExit sExit p q = unique p q
 
+pub one-check-blocks : OneResult check-blocks.Post
+one-check-blocks κs given r s rExit sExit p q = unique p q
+
 -- ---- calls that write to a slice: the same result, and the same bytes in it at exit. It is the last that each is given
 
 pub one-write : (κs : _) (given : _) (r s : _) (rExit sExit : _) → write.Post κs given r rExit → write.Post κs given s sExit
@@ -107,3 +115,20 @@ one-write-empty κs given r s rExit sExit p q = (unique (p .0) (q .0), unique (p
 pub one-list : (κs : _) (given : _) (r s : _) (rExit sExit : _) → list.Post κs given r rExit → list.Post κs given s sExit
     → (r ≡ s) × (now (rExit .1 .0) ≡ now (sExit .1 .0))
 one-list κs given r s rExit sExit p q = (unique (p .0) (q .0), unique (p .1) (q .1))
+
+pub one-extract : (κs : _) (given : _) (r s : _) (rExit sExit : _) → extract.Post κs given r rExit → extract.Post κs given s sExit
+    → (r ≡ s) × (now (rExit .1 .1 .1 .0) ≡ now (sExit .1 .1 .1 .0))
+one-extract κs given r s rExit sExit p q = (unique (p .0) (q .0), unique (p .1) (q .1))
+
+pub one-join : (κs : _) (given : _) (r s : _) (rExit sExit : _) → join.Post κs given r rExit → join.Post κs given s sExit
+    → (r ≡ s) × (now (rExit .1 .1 .0) ≡ now (sExit .1 .1 .0))
+one-join κs given r s rExit sExit p q = (unique (p .0) (q .0), unique (p .1) (q .1))
+
+pub one-write-block : (κs : _) (given : _) (r s : _) (rExit sExit : _) → write-block.Post κs given r rExit → write-block.Post κs given s sExit
+    → (r ≡ s) × (now (rExit .1 .1 .1 .1 .0) ≡ now (sExit .1 .1 .1 .1 .0))
+one-write-block κs given r s rExit sExit p q = (unique (p .0) (q .0), unique (p .1) (q .1))
+
+-- numbers and bytes
+pub one-read-block : (κs : _) (given : _) (r s : _) (rExit sExit : _) → read-block.Post κs given r rExit → read-block.Post κs given s sExit
+    → (r ≡ s) × (now (rExit .1 .1 .0) ≡ now (sExit .1 .1 .0)) × (now (rExit .1 .1 .1 .0) ≡ now (sExit .1 .1 .1 .0))
+one-read-block κs given r s rExit sExit p q = (unique (p .0) (q .0), unique (p .1) (q .1), unique (p .2) (q .2))
