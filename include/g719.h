@@ -14,15 +14,16 @@
  * Link libg719.a (x86-64 Linux). It needs memcpy and memset and nothing else. It has no state and takes no heap; it never exits,
  * waits or locks. Any number of threads may call it at once, each with its own lent memory. A call takes less than 8 KiB of stack.
  *
- * ANSWERS. Each call answers with a struct by value whose first field is the reply, a number from 0 to 15. With any reply but 0 all
- * other fields are 0, save with 14 the next place, and in a g719_check always its count and place. Only 0 changes lent memory. If an
- * input is wrong in several ways, the reply that stands first in the call's list is given. Every value of every number has an answer.
+ * ANSWERS. Each call answers with a struct by value whose first field is the reply, a number from 0 to 17. With any reply but 0 all
+ * other fields are 0, save with 14 the next place, in a g719_check its count and place (with 17 they are 0 too), and in a g719_copied
+ * count, place and which of a recording that is not sound. Only 0 changes lent memory. If an input is wrong in several ways, the
+ * reply that stands first in the call's list is given. Every value of every number has an answer.
  *
  * LENT MEMORY. A lent slice is two parameters: a pointer and how many elements (not bytes) it has. A const slice is only read. A
  * larger room than needed may be lent; what goes beyond the need is kept as it was.
  *   - The elements must be there, for reading and, if not const, for writing. With count 0 the pointer is not followed and may be
  *     NULL; with any other count it must not be.
- *   - A pointer must be aligned as C asks of its type: uint16_t to an even address.
+ *   - A pointer must be aligned as C asks of its type: uint16_t to an even address, uint32_t to a multiple of 4.
  *   - A slice that is written must not overlap any other slice of the same call. Slices that are only read may overlap.
  *   - A parameter such as `const uint8_t norms[44]` is a pointer to that many elements, which must be there: never NULL.
  * The library keeps no pointer after the call.
@@ -53,7 +54,8 @@ enum {
     G719_FRAME_BYTES = 321,  /* bytes of the largest stored frame, prefix byte and body */
     G719_POINT_PLACES = 8,   /* places of a point and of a lattice index */
     G719_MOST_BUDGET = 2560, /* the largest budget, in bits */
-    G719_MOST_FRAMES = 3000  /* the most sound frames of a recording */
+    G719_MOST_FRAMES = 3000, /* the most sound frames of a recording, or blocks of one with several channels */
+    G719_MOST_CHANNELS = 8   /* the most channels of a recording */
 };
 
 /* The replies: each given exactly when ... */
@@ -68,12 +70,13 @@ enum {
     G719_PAST_BUDGET = 7,    /* codes go past the budget */
     G719_OUT_OF_RANGE = 8,   /* to write or compute: a number out of its range, or a point that no index of the rate names */
     G719_FAR_APART = 9,      /* to write: a norm difference outside -15 to 16, in the order sent */
-    G719_SHORT_ROOM = 10,    /* lent room short: 800 numbers, 320 bytes, frame + 1 bytes */
+    G719_SHORT_ROOM = 10,    /* lent room short: 800 numbers, 320 bytes, frame + 1 bytes, for a block as much for each channel */
     G719_NOT_AS_BOOKED = 11, /* the file ended soundly, its count is not as booked */
     G719_WIDE_CODE = 12,     /* in a record, a code too wide for its rate or an unused place not 0 */
     G719_WRONG_TAIL = 13,    /* in a record, tail count or padding wrong */
     G719_NO_DATA = 14,       /* L is 0: no data, no body */
-    G719_TOO_MANY = 15       /* a byte is left after 3,000 sound frames */
+    G719_TOO_MANY = 15,      /* a byte is left after 3,000 sound frames or blocks */
+    G719_CHANNELS = 17       /* a channel count outside 1 to 8, a channel not among them, or unequal frame counts */
 };
 
 /* ---- Prefix byte */
@@ -232,6 +235,59 @@ typedef struct g719_check {
 /* Reads every frame of a recording in full and holds their count against the booking. Stops at the first frame that is not sound,
  * with its reply (2 to 7); 15 for a byte after 3,000 sound frames; at the end 11 if the count is not the booking, else 0. */
 g719_check g719_check_file(const uint8_t *src, size_t src_count, uint32_t booking);
+
+/* ---- Several channels in one recording: for each 20 ms a block of one stored frame per channel, in order (A.4.2). The file does not
+ * say how many channels it has, 1 to 8; the booking does. A channel's number counts from 0. */
+
+typedef struct g719_block {
+    uint8_t reply;
+    size_t next;            /* where the next block begins: the bytes of all its frames */
+    g719_reading frames[8]; /* of each channel, with reply 0 or 14 and its own size as next; past the last channel all 0 */
+} g719_block;
+
+typedef struct g719_records {
+    g719_record at[8]; /* of each channel; not looked at where the frame is empty, nor past the last channel */
+    uint8_t empty[8];  /* flag: the channel's frame is an empty one */
+} g719_records;
+
+typedef struct g719_copied {
+    uint8_t reply;
+    uint8_t which;  /* g719_join: the recording that is not sound, counted from 1; else 0 */
+    uint32_t count; /* blocks written, or what the check of a recording that is not sound counts */
+    size_t place;   /* as the check gives it; from g719_join with 0 it is 0 */
+    size_t length;  /* bytes written */
+} g719_copied;
+
+/* Reads the block at the start of src; what follows it is not looked at. With 0 channel c has its codes from number 800 c on and its
+ * tail from byte 320 c on; where its frame is empty these parts stay as they were. Replies: 17 for a channel count outside 1 to 8, 10
+ * (800 numbers and 320 bytes for each channel), 1 for no byte, the reply (2 to 7) of the first frame that is not sound, 4 where the
+ * bytes end before a later channel's frame, 0. */
+g719_block g719_read_block(const uint8_t *src, size_t src_count, uint8_t channels, uint16_t *codes, size_t codes_count,
+                           uint8_t *tails, size_t tails_count);
+
+/* Writes a block, codes and tails standing as in g719_read_block; with 0 the first next bytes of out are filled. What was read with 0
+ * is written with 0, to the same bytes with R 0, and what was written with 0 is read with 0, to the same records. Replies: 17 for a
+ * channel count outside 1 to 8, 10 for codes and tails (800 numbers and 320 bytes for each channel, an empty one too), of the first
+ * frame that cannot be written 8, 9, 12, 7 or 13 as in g719_write, 10 for out, 0. */
+g719_writing g719_write_block(g719_records records, uint8_t channels, const uint16_t *codes, size_t codes_count,
+                              const uint8_t *tails, size_t tails_count, uint8_t *out, size_t out_count);
+
+/* g719_check_file over blocks: count and booking count blocks, the place is that of the block that stopped the check. Replies: 17 for
+ * a channel count outside 1 to 8, that of the first frame that is not sound (2 to 7), 4 for a block that lacks a frame, 15 for a byte
+ * after 3,000 sound blocks, at the end 11 if the count is not the booking, else 0. */
+g719_check g719_check_blocks(const uint8_t *src, size_t src_count, uint8_t channels, uint32_t booking);
+
+/* Takes one channel out of a recording: its frames, as stored. Replies: 17 for a channel count outside 1 to 8 or a channel not among
+ * them, those of g719_check_blocks save 11 with its count and place, 10 for out, 0 with the count of blocks and the end as place. */
+g719_copied g719_extract(const uint8_t *src, size_t src_count, uint8_t channels, uint8_t channel, uint8_t *out, size_t out_count);
+
+/* Joins recordings of one channel and of equal frame count into one, frames as stored. They stand in src one behind the other, with
+ * the bytes of each in lengths; what follows them is not looked at. g719_extract with channel c takes recording c, from 0, out again.
+ * Replies: 17 for other than 1 to 8 lengths, 10 where they add up to more than src holds, those of g719_check_file save 11 of the
+ * first recording that is not sound, with its count and place and which it is, 17 for unequal frame counts, 10 for out, 0 with the
+ * frame count. */
+g719_copied g719_join(const uint8_t *src, size_t src_count, const uint32_t *lengths, size_t lengths_count, uint8_t *out,
+                      size_t out_count);
 
 #ifdef __cplusplus
 }

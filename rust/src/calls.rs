@@ -1,10 +1,13 @@
-//! The sixteen calls as one table, so that a test can run both sides.
+//! The twenty-one calls as one table, so that a test can run both sides.
 
 use crate::types::{
-    Byte, Check, Choice, Index, Norms, Parts, Point, Prefix, Reading, Record, Row, Shares, Weights, Writing,
-    BANDS,
+    Block, Byte, Check, Choice, Copied, Index, Norms, Parts, Point, Prefix, Reading, Record, Records, Row,
+    Shares, Weights, Writing, BANDS,
 };
 use crate::{library, reference};
+
+/// The block writer.
+pub type WriteBlock = fn(&Records, u8, &[u16], &[u8], &mut [u8]) -> Writing;
 
 /// One side: the library or the plain implementation.
 pub struct Calls {
@@ -25,6 +28,11 @@ pub struct Calls {
     pub lattice_index: fn(u8, &[i16; 8]) -> Index,
     pub codebook_index: fn(u8, &[i16; 8]) -> Row,
     pub check_file: fn(&[u8], u32) -> Check,
+    pub read_block: fn(&[u8], u8, &mut [u16], &mut [u8]) -> Block,
+    pub write_block: WriteBlock,
+    pub check_blocks: fn(&[u8], u8, u32) -> Check,
+    pub extract: fn(&[u8], u8, u8, &mut [u8]) -> Copied,
+    pub join: fn(&[u8], &[u32], &mut [u8]) -> Copied,
 }
 
 macro_rules! calls_of {
@@ -47,6 +55,11 @@ macro_rules! calls_of {
             lattice_index: $side::lattice_index,
             codebook_index: $side::codebook_index,
             check_file: $side::check_file,
+            read_block: $side::read_block,
+            write_block: $side::write_block,
+            check_blocks: $side::check_blocks,
+            extract: $side::extract,
+            join: $side::join,
         }
     };
 }

@@ -2,6 +2,7 @@
 //! Equal seeds give equal inputs. Lent rooms come below, at and above the
 //! size they need, filled with random numbers.
 
+mod channels;
 mod frames;
 mod norms;
 mod points;
@@ -9,6 +10,10 @@ mod recordings;
 mod records;
 mod writes;
 
+pub use channels::{
+    blocks_case, extract_case, join_case, read_block_case, write_block_case, BlocksCase, ExtractCase,
+    JoinCase, ReadBlockCase, WriteBlockCase,
+};
 pub use frames::{read_case, ReadCase};
 pub use norms::{allot_case, norms_case, AllotCase, NormsCase};
 pub use points::{

@@ -4,8 +4,8 @@
 
 use crate::raw;
 use crate::types::{
-    Byte, Check, Choice, Index, Norms, Parts, Point, Prefix, Reading, Record, Row, Shares, Weights, Writing,
-    BANDS,
+    Block, Byte, Check, Choice, Copied, Index, Norms, Parts, Point, Prefix, Reading, Record, Records, Row,
+    Shares, Weights, Writing, BANDS,
 };
 
 /// Reads the prefix byte at the start of `src`.
@@ -119,4 +119,82 @@ pub fn codebook_index(rate: u8, point: &[i16; 8]) -> Row {
 pub fn check_file(src: &[u8], booking: u32) -> Check {
     // SAFETY: pointer and count are those of a slice that is only read.
     unsafe { raw::g719_check_file(src.as_ptr(), src.len(), booking) }
+}
+
+/// Reads the block at the start of `src`: the codes of channel c from number
+/// 800 c of `codes` on, its tail from byte 320 c of `tails` on.
+pub fn read_block(src: &[u8], channels: u8, codes: &mut [u16], tails: &mut [u8]) -> Block {
+    // SAFETY: pointers and counts are those of slices that do not overlap;
+    // `src` is only read.
+    let block = unsafe {
+        raw::g719_read_block(
+            src.as_ptr(),
+            src.len(),
+            channels,
+            codes.as_mut_ptr(),
+            codes.len(),
+            tails.as_mut_ptr(),
+            tails.len(),
+        )
+    };
+    block.into()
+}
+
+/// Writes a block from the codes at 800 c and the tail at 320 c of each
+/// channel c that is not empty.
+pub fn write_block(records: &Records, channels: u8, codes: &[u16], tails: &[u8], out: &mut [u8]) -> Writing {
+    // SAFETY: pointers and counts are those of slices; `out`, the only one
+    // that is written, overlaps neither of the others.
+    unsafe {
+        raw::g719_write_block(
+            (*records).into(),
+            channels,
+            codes.as_ptr(),
+            codes.len(),
+            tails.as_ptr(),
+            tails.len(),
+            out.as_mut_ptr(),
+            out.len(),
+        )
+    }
+}
+
+/// Reads every block of a file in full and holds their count against the
+/// booking.
+pub fn check_blocks(src: &[u8], channels: u8, booking: u32) -> Check {
+    // SAFETY: pointer and count are those of a slice that is only read.
+    unsafe { raw::g719_check_blocks(src.as_ptr(), src.len(), channels, booking) }
+}
+
+/// Writes the frames of one channel, counted from 0, as stored.
+pub fn extract(src: &[u8], channels: u8, channel: u8, out: &mut [u8]) -> Copied {
+    // SAFETY: pointers and counts are those of slices that do not overlap;
+    // `src` is only read.
+    unsafe {
+        raw::g719_extract(
+            src.as_ptr(),
+            src.len(),
+            channels,
+            channel,
+            out.as_mut_ptr(),
+            out.len(),
+        )
+    }
+}
+
+/// Writes a block of the frames of all recordings, as stored, for each of
+/// their frames. The recordings stand one behind the other in `src`.
+pub fn join(src: &[u8], lengths: &[u32], out: &mut [u8]) -> Copied {
+    // SAFETY: pointers and counts are those of slices; `out`, the only one
+    // that is written, overlaps neither of the others.
+    unsafe {
+        raw::g719_join(
+            src.as_ptr(),
+            src.len(),
+            lengths.as_ptr(),
+            lengths.len(),
+            out.as_mut_ptr(),
+            out.len(),
+        )
+    }
 }

@@ -3,7 +3,8 @@
 #![allow(unsafe_code)]
 
 use crate::types::{
-    self, Byte, Check, Index, Norms, Parts, Point, Prefix, Row, Shares, Weights, Writing, BANDS,
+    self, Byte, Check, Copied, Index, Norms, Parts, Point, Prefix, Row, Shares, Weights, Writing, BANDS,
+    CHANNELS,
 };
 
 /// A record with its flags as numbers.
@@ -35,6 +36,23 @@ pub struct Reading {
 pub struct Choice {
     pub reply: u8,
     pub flag: u8,
+}
+
+/// A block that was read, and the place after it.
+#[repr(C)]
+#[derive(Clone, Copy, Debug, PartialEq, Eq)]
+pub struct Block {
+    pub reply: u8,
+    pub next: usize,
+    pub frames: [Reading; CHANNELS],
+}
+
+/// The records of a block, with numbers that tell the empty frames.
+#[repr(C)]
+#[derive(Clone, Copy, Debug, PartialEq, Eq)]
+pub struct Records {
+    pub at: [Record; CHANNELS],
+    pub empty: [u8; CHANNELS],
 }
 
 // SAFETY: each line is the C line of include/g719.h; a reference to an array
@@ -72,6 +90,42 @@ unsafe extern "C" {
     pub safe fn g719_lattice_index(rate: u8, point: &[i16; 8]) -> Index;
     pub safe fn g719_codebook_index(rate: u8, point: &[i16; 8]) -> Row;
     pub fn g719_check_file(src: *const u8, src_count: usize, booking: u32) -> Check;
+    pub fn g719_read_block(
+        src: *const u8,
+        src_count: usize,
+        channels: u8,
+        codes: *mut u16,
+        codes_count: usize,
+        tails: *mut u8,
+        tails_count: usize,
+    ) -> Block;
+    pub fn g719_write_block(
+        records: Records,
+        channels: u8,
+        codes: *const u16,
+        codes_count: usize,
+        tails: *const u8,
+        tails_count: usize,
+        out: *mut u8,
+        out_count: usize,
+    ) -> Writing;
+    pub fn g719_check_blocks(src: *const u8, src_count: usize, channels: u8, booking: u32) -> Check;
+    pub fn g719_extract(
+        src: *const u8,
+        src_count: usize,
+        channels: u8,
+        channel: u8,
+        out: *mut u8,
+        out_count: usize,
+    ) -> Copied;
+    pub fn g719_join(
+        src: *const u8,
+        src_count: usize,
+        lengths: *const u32,
+        lengths_count: usize,
+        out: *mut u8,
+        out_count: usize,
+    ) -> Copied;
 }
 
 impl From<types::Record> for Record {
@@ -119,6 +173,25 @@ impl From<Choice> for types::Choice {
         types::Choice {
             reply: choice.reply,
             flag: choice.flag != 0,
+        }
+    }
+}
+
+impl From<Block> for types::Block {
+    fn from(block: Block) -> Self {
+        types::Block {
+            reply: block.reply,
+            next: block.next,
+            frames: block.frames.map(Into::into),
+        }
+    }
+}
+
+impl From<types::Records> for Records {
+    fn from(records: types::Records) -> Self {
+        Records {
+            at: records.at.map(Into::into),
+            empty: records.empty.map(Into::into),
         }
     }
 }

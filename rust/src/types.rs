@@ -7,6 +7,8 @@ pub const BANDS: usize = 44;
 pub const COEFFICIENTS: usize = 800;
 /// Bytes that hold a tail.
 pub const TAIL_BYTES: usize = 320;
+/// Most channels of a recording.
+pub const CHANNELS: usize = 8;
 
 /// A prefix byte: its L (`length`), the body bytes L names and the next place.
 #[repr(C)]
@@ -131,6 +133,44 @@ pub struct Check {
     pub reply: u8,
     pub count: u32,
     pub place: usize,
+}
+
+/// A block that was read, a frame for each channel, and the place after it.
+/// Each frame's next place counts from the frame's own start.
+#[derive(Clone, Copy, Debug, PartialEq, Eq)]
+pub struct Block {
+    pub reply: u8,
+    pub next: usize,
+    pub frames: [Reading; CHANNELS],
+}
+
+/// The records of a block; a channel that is `empty` has an empty frame.
+#[derive(Clone, Copy, Debug, PartialEq, Eq)]
+pub struct Records {
+    pub at: [Record; CHANNELS],
+    pub empty: [bool; CHANNELS],
+}
+
+/// Frames copied as stored: the blocks or frames and the place that the check
+/// tells, the bytes written, and which of the joined recordings was refused,
+/// counted from 1.
+#[repr(C)]
+#[derive(Clone, Copy, Debug, PartialEq, Eq)]
+pub struct Copied {
+    pub reply: u8,
+    pub which: u8,
+    pub count: u32,
+    pub place: usize,
+    pub length: usize,
+}
+
+impl Reading {
+    /// No frame.
+    pub const NONE: Reading = Reading {
+        reply: 0,
+        next: 0,
+        record: Record::ZERO,
+    };
 }
 
 impl Record {

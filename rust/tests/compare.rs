@@ -14,8 +14,10 @@ const OTHERS: u64 = 40_000;
 /// Cases of the file check, and of the calls on one byte.
 const FILES: u64 = 10_000;
 const BYTES: u64 = 5_000;
+/// Cases of each call on several channels.
+const BLOCKS: u64 = 10_000;
 
-const _: () = assert!(3 * FRAMES + 9 * OTHERS + FILES + 2 * BYTES >= 200_000);
+const _: () = assert!(3 * FRAMES + 9 * OTHERS + FILES + 2 * BYTES + 5 * BLOCKS >= 200_000);
 
 /// Lent memory: content between sentinels that no call may touch.
 #[derive(Debug, PartialEq)]
@@ -134,6 +136,83 @@ fn check_file() {
         let mut src = Lent::new(&case.src);
         let check = (calls.check_file)(src.lend(), case.booking);
         (check.reply, (check, src))
+    });
+}
+
+#[test]
+fn read_block() {
+    let replies = [0, 1, 2, 3, 4, 5, 6, 7, 10, 17];
+    compare(
+        "read_block",
+        &replies,
+        BLOCKS,
+        cases::read_block_case,
+        |calls, case| {
+            let mut src = Lent::new(&case.src);
+            let (mut codes, mut tails) = (Lent::new(&case.codes), Lent::new(&case.tails));
+            let block = (calls.read_block)(src.lend(), case.channels, codes.lend(), tails.lend());
+            (block.reply, (block, src, codes, tails))
+        },
+    );
+}
+
+#[test]
+fn write_block() {
+    let replies = [0, 7, 8, 9, 10, 12, 13, 17];
+    compare(
+        "write_block",
+        &replies,
+        BLOCKS,
+        cases::write_block_case,
+        |calls, case| {
+            let (mut codes, mut tails) = (Lent::new(&case.codes), Lent::new(&case.tails));
+            let mut out = Lent::new(&case.out);
+            let writing = (calls.write_block)(
+                &case.records,
+                case.channels,
+                codes.lend(),
+                tails.lend(),
+                out.lend(),
+            );
+            (writing.reply, (writing, codes, tails, out))
+        },
+    );
+}
+
+#[test]
+fn check_blocks() {
+    let replies = [0, 2, 3, 4, 5, 6, 7, 11, 15, 17];
+    compare(
+        "check_blocks",
+        &replies,
+        BLOCKS,
+        cases::blocks_case,
+        |calls, case| {
+            let mut src = Lent::new(&case.src);
+            let check = (calls.check_blocks)(src.lend(), case.channels, case.booking);
+            (check.reply, (check, src))
+        },
+    );
+}
+
+#[test]
+fn extract() {
+    let replies = [0, 2, 3, 4, 5, 6, 7, 10, 15, 17];
+    compare("extract", &replies, BLOCKS, cases::extract_case, |calls, case| {
+        let (mut src, mut out) = (Lent::new(&case.src), Lent::new(&case.out));
+        let copied = (calls.extract)(src.lend(), case.channels, case.channel, out.lend());
+        (copied.reply, (copied, src, out))
+    });
+}
+
+#[test]
+fn join() {
+    let replies = [0, 2, 3, 4, 5, 6, 7, 10, 15, 17];
+    compare("join", &replies, BLOCKS, cases::join_case, |calls, case| {
+        let (mut src, mut out) = (Lent::new(&case.src), Lent::new(&case.out));
+        let mut lengths = Lent::new(&case.lengths);
+        let copied = (calls.join)(src.lend(), lengths.lend(), out.lend());
+        (copied.reply, (copied, src, lengths, out))
     });
 }
 

@@ -1,13 +1,16 @@
 //! Every number that a flag can be, through the C interface itself and beside
 //! the plain implementation: all but 0 act as 1, and 0 or 1 comes out.
 
-use g719::cases::{allot_case, norms_case, read_case, write_case, WriteCase};
+use g719::cases::{allot_case, norms_case, read_case, write_block_case, write_case};
+use g719::cases::{WriteBlockCase, WriteCase};
 use g719::random::Random;
-use g719::types::{Parts, Record, Writing};
+use g719::types::{Parts, Record, Records, Writing, CHANNELS};
 use g719::{raw, reference};
 
 /// Records, norms and budgets that are tried with every number.
 const SWEPT: u64 = 40;
+/// Blocks that are tried with every number.
+const BLOCKS: u64 = 8;
 /// Records whose flags are any numbers at once, and frames that are read.
 const DRAWN: u64 = 20_000;
 /// Bytes behind a lent slice, which must stay.
@@ -163,4 +166,65 @@ fn numbers_that_come_out() {
         }
     }
     assert!(seen.as_flattened().iter().all(|&count| count > 1000), "{seen:?}");
+}
+
+/// What the block writer answers, with all of the output's memory.
+fn block_in_c(records: raw::Records, case: &WriteBlockCase) -> (Writing, Vec<u8>) {
+    let mut memory = case.out.clone();
+    memory.resize(case.out.len() + BEHIND, KEPT);
+    // SAFETY: pointers and counts are those of slices, of `memory` its front;
+    // only that one is written, and it overlaps none of the others.
+    let writing = unsafe {
+        raw::g719_write_block(
+            records,
+            case.channels,
+            case.codes.as_ptr(),
+            case.codes.len(),
+            case.tails.as_ptr(),
+            case.tails.len(),
+            memory.as_mut_ptr(),
+            case.out.len(),
+        )
+    };
+    (writing, memory)
+}
+
+fn block_plainly(records: &Records, case: &WriteBlockCase) -> (Writing, Vec<u8>) {
+    let mut memory = case.out.clone();
+    let writing = reference::write_block(records, case.channels, &case.codes, &case.tails, &mut memory);
+    memory.resize(case.out.len() + BEHIND, KEPT);
+    (writing, memory)
+}
+
+/// Blocks that are written, with each channel made empty by each number.
+#[test]
+fn each_number_of_an_empty_frame() {
+    let written = |case: &WriteBlockCase| block_plainly(&case.records, case).0.reply == 0;
+    let cases = (0..).map(write_block_case).filter(written);
+    for case in cases.take(BLOCKS as usize) {
+        for (channel, number) in (0..CHANNELS).flat_map(|channel| (0..=255).map(move |n| (channel, n))) {
+            let mut records = case.records;
+            records.empty[channel] = number != 0;
+            let wanted = block_plainly(&records, &case);
+            let mut records = raw::Records::from(records);
+            records.empty[channel] = number;
+            assert_eq!(block_in_c(records, &case), wanted, "channel {channel}, {number}");
+        }
+    }
+}
+
+/// Blocks whose flags are any numbers at once.
+#[test]
+fn any_numbers_in_a_block() {
+    for seed in 0..DRAWN / 10 {
+        let mut random = Random::new(seed);
+        let case = write_block_case(seed);
+        let mut records = raw::Records::from(case.records);
+        let in_records = records.at.iter_mut().flat_map(flags);
+        for flag in in_records.chain(&mut records.empty) {
+            *flag *= 1 + random.below(255) as u8;
+        }
+        let wanted = block_plainly(&case.records, &case);
+        assert_eq!(block_in_c(records, &case), wanted, "seed {seed}");
+    }
 }

@@ -89,3 +89,39 @@ fn sound_frames_of_all_kinds() {
     }
     assert_eq!(kinds.len(), 20 * 16);
 }
+
+/// Blocks are read and written with one to eight channels, each channel with
+/// data and empty; every channel is taken out, and as many are joined.
+#[test]
+fn blocks_of_all_kinds() {
+    let (mut read, mut written) = (BTreeSet::new(), BTreeSet::new());
+    let (mut taken, mut joined) = (BTreeSet::new(), BTreeSet::new());
+    for seed in 0..CASES / 4 {
+        let mut case = cases::read_block_case(seed);
+        let block = reference::read_block(&case.src, case.channels, &mut case.codes, &mut case.tails);
+        let mut case = cases::write_block_case(seed);
+        let records = &case.records;
+        let writing = reference::write_block(records, case.channels, &case.codes, &case.tails, &mut case.out);
+        for channel in 0..8 {
+            let reading = &block.frames[channel];
+            if block.reply == 0 && reading.next > 0 {
+                read.insert((channel, reading.reply));
+            }
+            if writing.reply == 0 && channel < case.channels.into() {
+                written.insert((case.channels, channel, records.empty[channel]));
+            }
+        }
+        let mut case = cases::extract_case(seed);
+        let copied = reference::extract(&case.src, case.channels, case.channel, &mut case.out);
+        if copied.reply == 0 && copied.length > 0 {
+            taken.insert((case.channels, case.channel));
+        }
+        let mut case = cases::join_case(seed);
+        let copied = reference::join(&case.src, &case.lengths, &mut case.out);
+        if copied.reply == 0 && copied.length > 0 {
+            joined.insert(case.lengths.len());
+        }
+    }
+    assert_eq!((read.len(), written.len()), (8 * 2, 36 * 2));
+    assert_eq!((taken.len(), joined.len()), (36, 8));
+}

@@ -7,7 +7,8 @@
 use g719::calls::{Calls, SIDES};
 use g719::random::Random;
 use g719::types::{
-    Byte, Check, Choice, Index, Norms, Point, Prefix, Reading, Record, Row, Shares, Weights, Writing,
+    Block, Byte, Check, Choice, Copied, Index, Norms, Point, Prefix, Reading, Record, Records, Row, Shares,
+    Weights, Writing, CHANNELS,
 };
 use std::fmt::Debug;
 use std::str::{FromStr, SplitWhitespace};
@@ -69,6 +70,21 @@ impl Line<'_> {
             tail_bits: self.number(),
         }
     }
+}
+
+/// A frame of a block, the parts of its rooms filled if it has data.
+fn frame(line: &mut Line, codes: &mut [u16], tail: &mut [u8]) -> Reading {
+    let mut frame = Reading {
+        reply: line.number(),
+        next: line.number(),
+        ..Reading::NONE
+    };
+    if frame.reply == 0 {
+        frame.record = line.record();
+        codes.copy_from_slice(&line.numbers());
+        tail.copy_from_slice(&line.bytes());
+    }
+    frame
 }
 
 /// Runs each line of a file on both sides.
@@ -255,5 +271,99 @@ fn check_file() {
             place: line.number(),
         };
         assert_eq!(found, wanted);
+    });
+}
+
+#[test]
+fn read_block() {
+    run(include_str!("data/read_block.txt"), |calls, line| {
+        let (src, channels) = (line.bytes(), line.number());
+        let (codes_count, tails_count) = (line.number(), line.number());
+        let (mut codes, mut tails) = (room(codes_count, &[]), room(tails_count, &[]));
+        let found = (calls.read_block)(&src, channels, &mut codes, &mut tails);
+        let mut wanted = Block {
+            reply: line.number(),
+            next: line.number(),
+            frames: [Reading::NONE; CHANNELS],
+        };
+        let (mut wanted_codes, mut wanted_tails) = (room(codes_count, &[]), room(tails_count, &[]));
+        if wanted.reply == 0 {
+            let rooms = wanted_codes.chunks_mut(800).zip(wanted_tails.chunks_mut(320));
+            for (at, (codes, tail)) in rooms.take(channels.into()).enumerate() {
+                wanted.frames[at] = frame(line, codes, tail);
+            }
+        }
+        assert_eq!(found, wanted);
+        assert_eq!((codes, tails), (wanted_codes, wanted_tails));
+    });
+}
+
+#[test]
+fn write_block() {
+    run(include_str!("data/write_block.txt"), |calls, line| {
+        let channels = line.number();
+        let empty: [u8; CHANNELS] = line.array();
+        let records = Records {
+            empty: empty.map(|number| number == 1),
+            at: std::array::from_fn(|_| line.record()),
+        };
+        let (codes, tails, count) = (line.numbers(), line.bytes(), line.number());
+        let wanted = Writing {
+            reply: line.number(),
+            next: line.number(),
+        };
+        let mut out = room(count, &[]);
+        let found = (calls.write_block)(&records, channels, &codes, &tails, &mut out);
+        assert_eq!(found, wanted);
+        assert_eq!(out, room(count, &line.bytes()));
+    });
+}
+
+#[test]
+fn check_blocks() {
+    run(include_str!("data/check_blocks.txt"), |calls, line| {
+        let found = (calls.check_blocks)(&line.bytes(), line.number(), line.number());
+        let wanted = Check {
+            reply: line.number(),
+            count: line.number(),
+            place: line.number(),
+        };
+        assert_eq!(found, wanted);
+    });
+}
+
+/// What was copied; the third implementation does not tell which of joined
+/// recordings is refused.
+fn copied(line: &mut Line, which: u8) -> Copied {
+    Copied {
+        reply: line.number(),
+        which,
+        count: line.number(),
+        place: line.number(),
+        length: line.number(),
+    }
+}
+
+#[test]
+fn extract() {
+    run(include_str!("data/extract.txt"), |calls, line| {
+        let (src, channels, channel) = (line.bytes(), line.number(), line.number());
+        let count = line.number();
+        let mut out = room(count, &[]);
+        let found = (calls.extract)(&src, channels, channel, &mut out);
+        assert_eq!(found, copied(line, 0));
+        assert_eq!(out, room(count, &line.bytes()));
+    });
+}
+
+#[test]
+fn join() {
+    run(include_str!("data/join.txt"), |calls, line| {
+        let (src, lengths) = (line.bytes(), line.numbers());
+        let count = line.number();
+        let mut out = room(count, &[]);
+        let found = (calls.join)(&src, &lengths, &mut out);
+        assert_eq!(found, copied(line, found.which));
+        assert_eq!(out, room(count, &line.bytes()));
     });
 }

@@ -1,6 +1,6 @@
 /* Calls every function of include/g719.h: layout of each struct, the paper's examples, every reply, what a refusal leaves alone,
- * frames written, read, laid out and written again, and every value of every flag. Prints how many checks passed; ends with 1 at the
- * first that does not. */
+ * frames written, read, laid out and written again, blocks of several channels too, recordings joined and taken apart, and every
+ * value of every flag. Prints how many checks passed; ends with 1 at the first that does not. */
 #include "g719.h"
 
 #include <stdbool.h>
@@ -111,6 +111,7 @@ static void structs(void)
     CHECK(sizeof(g719_norms) == 45 && sizeof(g719_weights) == 134 && sizeof(g719_shares) == 48);
     CHECK(sizeof(g719_point) == 18 && sizeof(g719_index) == 18 && sizeof(g719_row) == 2 && sizeof(g719_check) == 16);
     CHECK(sizeof(g719_parts) == 52);
+    CHECK(sizeof(g719_block) == 592 && sizeof(g719_records) == 424 && sizeof(g719_copied) == 24);
     FIELD(g719_prefix, length, 1, 1);
     FIELD(g719_prefix, bytes, 2, 2);
     FIELD(g719_prefix, next, 4, 1);
@@ -141,6 +142,14 @@ static void structs(void)
     FIELD(g719_row, index, 1, 1);
     FIELD(g719_check, count, 4, 4);
     FIELD(g719_check, place, 8, 8);
+    FIELD(g719_block, next, 8, 8);
+    FIELD(g719_block, frames, 16, 576);
+    FIELD(g719_records, at, 0, 416);
+    FIELD(g719_records, empty, 416, 8);
+    FIELD(g719_copied, which, 1, 1);
+    FIELD(g719_copied, count, 4, 4);
+    FIELD(g719_copied, place, 8, 8);
+    FIELD(g719_copied, length, 16, 8);
 }
 
 /* ---- prefix byte */
@@ -867,6 +876,408 @@ static void recordings(void)
     CHECK(checked(file, at, 12, G719_MARKED, 2, 82));
 }
 
+/* ---- several channels */
+
+enum { MOST = G719_MOST_CHANNELS };
+
+/* Room for a block, larger than needed. */
+typedef struct block_room {
+    uint16_t codes[MOST * G719_CODES + EXCESS];
+    uint8_t tails[MOST * G719_TAIL_BYTES + EXCESS];
+    uint8_t out[MOST * G719_FRAME_BYTES + EXCESS];
+} block_room;
+
+/* A block in parts, with junk where nothing may be looked at. */
+typedef struct parted {
+    g719_records records;
+    uint16_t codes[MOST * G719_CODES];
+    uint8_t tails[MOST * G719_TAIL_BYTES];
+} parted;
+
+static void draw_bytes(void *at, size_t count)
+{
+    uint8_t *b = at;
+    for (size_t i = 0; i < count; i++)
+        b[i] = (uint8_t)drawn(256);
+}
+
+/* Draws the parts of a block; each frame is empty once in three times, by any number but 0. */
+static void draw_parts(parted *p, uint8_t channels)
+{
+    draw_bytes(p, sizeof *p);
+    for (uint8_t c = 0; c < channels; c++) {
+        p->records.empty[c] = drawn(3) == 0 ? (uint8_t)(1 + drawn(255)) : 0;
+        if (!p->records.empty[c])
+            p->records.at[c] = draw_record((uint8_t)drawn(20), p->codes + c * G719_CODES, p->tails + c * G719_TAIL_BYTES);
+    }
+}
+
+/* The frames of a block, each written by its own call; how many bytes they have. */
+static size_t frame_by_frame(const parted *p, uint8_t channels, uint8_t *out)
+{
+    size_t at = 0;
+    for (uint8_t c = 0; c < channels; c++) {
+        g719_writing w = p->records.empty[c]
+            ? g719_write_empty(out + at, 1)
+            : g719_write(p->records.at[c], p->codes + c * G719_CODES, G719_CODES, p->tails + c * G719_TAIL_BYTES, G719_TAIL_BYTES,
+                         out + at, G719_FRAME_BYTES);
+        CHECK(w.reply == G719_DONE);
+        at += w.next;
+    }
+    return at;
+}
+
+static bool no_frame(const g719_reading *r)
+{
+    return r->reply == 0 && r->next == 0 && no_record(&r->record);
+}
+
+/* Sees that a frame of a block is what reading it alone gives, in its own part of the rooms; an empty one leaves its part alone. */
+static void frame_as_alone(const g719_reading *frame, const uint8_t *src, size_t bytes, const uint16_t *codes, const uint8_t *tail)
+{
+    room got = marked_room();
+    g719_reading alone = g719_read(src, bytes, got.codes, G719_CODES, got.tail, G719_TAIL_BYTES);
+    CHECK(frame->reply == alone.reply && frame->next == alone.next && same_record(&frame->record, &alone.record));
+    CHECK(memcmp(codes, got.codes, 2 * G719_CODES) == 0 && memcmp(tail, got.tail, G719_TAIL_BYTES) == 0);
+}
+
+/* Reads a block that must be sound, R set or not, and sees that its frames, rooms and excess are as they should be. */
+static void block_read_as(const uint8_t *src, size_t bytes, uint8_t channels)
+{
+    static block_room got;
+    memset(&got, KEPT, sizeof got);
+    g719_block b = g719_read_block(src, bytes, channels, got.codes, MOST * G719_CODES + EXCESS, got.tails,
+                                   MOST * G719_TAIL_BYTES + EXCESS);
+    CHECK(b.reply == G719_DONE && b.next == bytes);
+    size_t at = 0;
+    for (uint8_t c = 0; c < MOST; c++) {
+        if (c < channels)
+            frame_as_alone(&b.frames[c], src + at, bytes - at, got.codes + c * G719_CODES, got.tails + c * G719_TAIL_BYTES);
+        else
+            CHECK(no_frame(&b.frames[c]));
+        at += b.frames[c].next;
+    }
+    CHECK(at == bytes);
+    size_t codes = (size_t)channels * G719_CODES, tails = (size_t)channels * G719_TAIL_BYTES;
+    CHECK(all_bytes(got.codes + codes, sizeof got.codes - 2 * codes, KEPT));
+    CHECK(all_bytes(got.tails + tails, sizeof got.tails - tails, KEPT) && all_bytes(got.out, sizeof got.out, KEPT));
+}
+
+static bool blocks_checked(const uint8_t *src, size_t count, uint8_t channels, uint32_t booking, uint8_t reply, uint32_t blocks,
+                           size_t place)
+{
+    g719_check c = g719_check_blocks(src, count, channels, booking);
+    return c.reply == reply && c.count == blocks && c.place == place;
+}
+
+static void drawn_blocks(void)
+{
+    static parted p;
+    static block_room made;
+    static uint8_t alone[MOST * G719_FRAME_BYTES + G719_FRAME_BYTES];
+    for (int turn = 0; turn < 40; turn++) {
+        uint8_t channels = (uint8_t)(1 + turn % MOST);
+        draw_parts(&p, channels);
+        size_t bytes = frame_by_frame(&p, channels, alone);
+        memset(&made, KEPT, sizeof made);
+        g719_writing w = g719_write_block(p.records, channels, p.codes, MOST * G719_CODES, p.tails, MOST * G719_TAIL_BYTES, made.out,
+                                          sizeof made.out);
+        CHECK(w.reply == G719_DONE && w.next == bytes && memcmp(made.out, alone, bytes) == 0);
+        CHECK(all_bytes(made.out + bytes, sizeof made.out - bytes, KEPT));
+        made.out[0] |= 3;
+        block_read_as(made.out, bytes, channels);
+        CHECK(blocks_checked(made.out, bytes, channels, 1, G719_DONE, 1, bytes));
+        CHECK(blocks_checked(made.out, bytes, channels, 2, G719_NOT_AS_BOOKED, 1, bytes));
+        CHECK(blocks_checked(made.out, bytes - 1, channels, 1, bytes == 1 ? G719_NOT_AS_BOOKED : G719_CUT, 0, 0));
+    }
+}
+
+/* A frame of 80 bytes that is read with this reply: 0, 5, 6 or 7 (refused_frames, refused_words). */
+static void frame_with(uint8_t reply, uint8_t frame[81])
+{
+    static const uint16_t codes[G719_CODES];
+    static const uint8_t tail[G719_TAIL_BYTES];
+    g719_record r = five_bits();
+    r.tail_bits = g719_layout(r, codes, G719_CODES).tail_bits;
+    CHECK(g719_write(r, codes, G719_CODES, tail, G719_TAIL_BYTES, frame, 81).reply == G719_DONE);
+    if (reply == G719_NORM_OUTSIDE) {
+        frame[1] = 0x0F;
+        memset(frame + 2, 0xFF, 79);
+    }
+    if (reply == G719_NO_WORD)
+        frame[29] = 0xFC;
+    if (reply == G719_PAST_BUDGET)
+        memset(frame + 29, 0xFF, 52);
+}
+
+/* Sees that a block is refused, that nothing else is told and that nothing lent is changed. */
+static void block_refused(uint8_t reply, const uint8_t *src, size_t count, uint8_t channels, size_t codes, size_t tails)
+{
+    static block_room got;
+    memset(&got, KEPT, sizeof got);
+    g719_block b = g719_read_block(src, count, channels, got.codes, codes, got.tails, tails);
+    CHECK(b.reply == reply && b.next == 0 && all_bytes(&got, sizeof got, KEPT));
+    for (int c = 0; c < MOST; c++)
+        CHECK(no_frame(&b.frames[c]));
+}
+
+static void refused_blocks(void)
+{
+    static const uint8_t heads[6] = { 0x00, 0x80, 0x04, 0x20, 0x03, 0x00 };
+    for (unsigned channels = 0; channels < 256; channels++)
+        if (channels < 1 || channels > MOST)
+            block_refused(G719_CHANNELS, NULL, 0, (uint8_t)channels, 0, 0);
+    block_refused(G719_SHORT_ROOM, NULL, 0, 2, 1599, 640);
+    block_refused(G719_SHORT_ROOM, NULL, 0, 2, 1600, 639);
+    CHECK(g719_read_block(NULL, 0, 2, NULL, 0, NULL, 0).reply == G719_SHORT_ROOM);
+    block_refused(G719_NO_BYTE, NULL, 0, 2, 1600, 640);
+    block_refused(G719_CUT, heads, 1, 2, 1600, 640);
+    block_refused(G719_MARKED, heads, 2, 2, 1600, 640);
+    block_refused(G719_MARKED, heads + 1, 5, 2, 1600, 640);
+    block_refused(G719_RESERVED, heads + 2, 4, 2, 1600, 640);
+    block_refused(G719_CUT, heads + 3, 3, 2, 1600, 640);
+    block_refused(G719_CUT, heads + 4, 2, 3, 2400, 960);
+    CHECK(g719_read_block(heads + 4, 2, 2, (uint16_t[1600]) { 0 }, 1600, (uint8_t[640]) { 0 }, 640).reply == G719_DONE);
+    static const uint8_t replies[3] = { G719_NORM_OUTSIDE, G719_NO_WORD, G719_PAST_BUDGET };
+    uint8_t block[163];
+    for (int i = 0; i < 3; i++) {
+        frame_with(G719_DONE, block);
+        frame_with(replies[i], block + 81);
+        block_refused(replies[i], block, 162, 2, 1600, 640);
+    }
+    frame_with(G719_DONE, block + 81);
+    block[162] = 0x00;
+    block_read_as(block, 163, 3);
+    for (size_t cut = 1; cut < 163; cut++)
+        block_refused(G719_CUT, block, cut, 3, 2400, 960);
+}
+
+/* Sees that a block is not written and that nothing lent is changed. */
+static void block_unwritten(uint8_t reply, const parted *p, uint8_t channels, size_t codes, size_t tails, size_t out)
+{
+    static block_room made;
+    memset(&made, KEPT, sizeof made);
+    g719_writing w = g719_write_block(p->records, channels, p->codes, codes, p->tails, tails, made.out, out);
+    CHECK(w.reply == reply && w.next == 0 && all_bytes(&made, sizeof made, KEPT));
+}
+
+/* Two frames of 01's example; what is wrong with the second comes last, but for the output's room. */
+static void unwritten_blocks(void)
+{
+    static parted p;
+    memset(&p, 0, sizeof p);
+    p.records.at[0] = p.records.at[1] = example(0);
+    block_unwritten(G719_CHANNELS, &p, 0, 0, 0, 0);
+    block_unwritten(G719_CHANNELS, &p, 9, MOST * G719_CODES, MOST * G719_TAIL_BYTES, 200);
+    block_unwritten(G719_SHORT_ROOM, &p, 2, 1599, 640, 162);
+    block_unwritten(G719_SHORT_ROOM, &p, 2, 1600, 639, 162);
+    block_unwritten(G719_SHORT_ROOM, &p, 2, 1600, 640, 161);
+    p.records.at[1].tail_bits = 5;
+    block_unwritten(G719_WRONG_TAIL, &p, 2, 1600, 640, 0);
+    p.records.at[1].flag_c = 1;
+    for (int i = 0; i < 8; i++)
+        p.codes[800 + i] = 2;
+    block_unwritten(G719_PAST_BUDGET, &p, 2, 1600, 640, 0);
+    p.codes[1599] = 1;
+    block_unwritten(G719_WIDE_CODE, &p, 2, 1600, 640, 0);
+    p.records.at[1].norms[43] = 37;
+    block_unwritten(G719_FAR_APART, &p, 2, 1600, 640, 0);
+    p.records.at[1].noise = 4;
+    block_unwritten(G719_OUT_OF_RANGE, &p, 2, 1600, 640, 0);
+    p.records.at[1].mode = 20;
+    p.records.at[0].tail_bits = 7;
+    block_unwritten(G719_WRONG_TAIL, &p, 2, 1600, 640, 0);
+    p.records.at[0].tail_bits = 6;
+    block_unwritten(G719_OUT_OF_RANGE, &p, 2, 1600, 640, 0);
+    CHECK(g719_write_block(p.records, 1, NULL, 0, NULL, 0, NULL, 0).reply == G719_SHORT_ROOM);
+    CHECK(g719_write_block(p.records, 1, p.codes, 800, p.tails, 320, NULL, 0).reply == G719_SHORT_ROOM);
+}
+
+/* The second frame is empty by every number but 0; then nothing of it is looked at but its part of the rooms. */
+static void empty_values(void)
+{
+    static parted p;
+    static block_room made;
+    draw_bytes(&p, sizeof p);
+    p.records.at[0] = example(0);
+    p.records.empty[0] = 0;
+    memset(p.codes, 0, 2 * G719_CODES);
+    memset(p.tails, 0, G719_TAIL_BYTES);
+    p.records.at[1].mode = 20;
+    for (unsigned value = 0; value < 256; value++) {
+        p.records.empty[1] = (uint8_t)value;
+        if (value == 0) {
+            block_unwritten(G719_OUT_OF_RANGE, &p, 2, 1600, 640, 82);
+            continue;
+        }
+        memset(&made, KEPT, sizeof made);
+        g719_writing w = g719_write_block(p.records, 2, p.codes, 1600, p.tails, 640, made.out, 82);
+        CHECK(w.reply == G719_DONE && w.next == 82 && made.out[0] == 0x20 && made.out[81] == 0x00);
+        CHECK(all_bytes(made.out + 82, sizeof made.out - 82, KEPT));
+        block_unwritten(G719_SHORT_ROOM, &p, 2, 1600, 640, 81);
+        block_unwritten(G719_SHORT_ROOM, &p, 2, 1599, 640, 82);
+    }
+    p.records.empty[0] = 1;
+    block_unwritten(G719_SHORT_ROOM, &p, 2, 1599, 640, 2);
+    block_unwritten(G719_SHORT_ROOM, &p, 2, 1600, 639, 2);
+    block_unwritten(G719_SHORT_ROOM, &p, 2, 1600, 640, 1);
+}
+
+static void checked_blocks(void)
+{
+    static uint8_t zeros[MOST * G719_MOST_FRAMES + 1];
+    for (uint8_t channels = 1; channels <= MOST; channels++) {
+        size_t most = (size_t)G719_MOST_FRAMES * channels;
+        CHECK(blocks_checked(zeros, most, channels, 3000, G719_DONE, 3000, most));
+        CHECK(blocks_checked(zeros, most, channels, 2999, G719_NOT_AS_BOOKED, 3000, most));
+        CHECK(blocks_checked(zeros, most + 1, channels, 3000, G719_TOO_MANY, 3000, most));
+        CHECK(blocks_checked(zeros, most - 1, channels, 2999, channels == 1 ? G719_DONE : G719_CUT, 2999, most - channels));
+        CHECK(blocks_checked(NULL, 0, channels, 0, G719_DONE, 0, 0));
+    }
+    CHECK(blocks_checked(zeros, 4, 0, 4, G719_CHANNELS, 0, 0) && blocks_checked(zeros, 9, 9, 1, G719_CHANNELS, 0, 0));
+    static const uint8_t replies[3] = { G719_NORM_OUTSIDE, G719_NO_WORD, G719_PAST_BUDGET };
+    static const uint8_t heads[3] = { 0x80, 0x04, 0x20 };
+    uint8_t file[164] = { 0x00, 0x01 };
+    frame_with(G719_DONE, file + 2);
+    for (int i = 0; i < 3; i++) {
+        frame_with(replies[i], file + 83);
+        CHECK(blocks_checked(file, 164, 2, 2, replies[i], 1, 2));
+    }
+    frame_with(G719_DONE, file + 83);
+    CHECK(blocks_checked(file, 164, 2, 2, G719_DONE, 2, 164) && blocks_checked(file, 83, 2, 2, G719_CUT, 1, 2));
+    for (int i = 0; i < 3; i++) {
+        file[83] = heads[i];
+        CHECK(blocks_checked(file, 84, 2, 2, (uint8_t)(G719_MARKED + i), 1, 2));
+    }
+}
+
+static bool same_copied(g719_copied c, uint8_t reply, uint8_t which, uint32_t count, size_t place, size_t length)
+{
+    return c.reply == reply && c.which == which && c.count == count && c.place == place && c.length == length;
+}
+
+/* Sees that a channel is not taken out and that nothing lent is changed. */
+static void not_taken(uint8_t reply, uint32_t count, size_t place, const uint8_t *src, size_t bytes, uint8_t channels, uint8_t channel,
+                      size_t room)
+{
+    uint8_t out[EXCESS];
+    memset(out, KEPT, sizeof out);
+    CHECK(same_copied(g719_extract(src, bytes, channels, channel, out, room), reply, 0, count, place, 0));
+    CHECK(all_bytes(out, sizeof out, KEPT));
+}
+
+static void refused_extracts(void)
+{
+    static const uint8_t zeros[2 * G719_MOST_FRAMES + 1];
+    static const uint8_t replies[3] = { G719_NORM_OUTSIDE, G719_NO_WORD, G719_PAST_BUDGET };
+    static const uint8_t heads[3] = { 0x80, 0x04, 0x20 };
+    not_taken(G719_CHANNELS, 0, 0, heads, 1, 0, 0, 0);
+    not_taken(G719_CHANNELS, 0, 0, heads, 1, 9, 0, 0);
+    for (uint8_t channels = 1; channels <= MOST; channels++)
+        not_taken(G719_CHANNELS, 0, 0, heads, 1, channels, channels, 0);
+    not_taken(G719_CHANNELS, 0, 0, heads, 1, 2, 255, 0);
+    uint8_t file[83] = { 0x00, 0x01 };
+    for (int i = 0; i < 3; i++) {
+        frame_with(replies[i], file + 2);
+        not_taken(replies[i], 1, 2, file, 83, 2, 0, 0);
+    }
+    for (int i = 0; i < 3; i++) {
+        file[2] = heads[i];
+        not_taken((uint8_t)(G719_MARKED + i), 1, 2, file, 3, 2, 0, 0);
+    }
+    not_taken(G719_CUT, 1, 2, zeros, 3, 2, 0, 0);
+    not_taken(G719_TOO_MANY, 3000, 6000, zeros, 6001, 2, 0, 0);
+    not_taken(G719_SHORT_ROOM, 0, 0, zeros, 6, 2, 1, 2);
+    uint8_t out[4] = { KEPT, KEPT, KEPT, KEPT };
+    CHECK(same_copied(g719_extract(zeros, 6, 2, 1, out, 4), G719_DONE, 0, 3, 6, 3) && all_bytes(out, 3, 0) && out[3] == KEPT);
+    CHECK(same_copied(g719_extract(NULL, 0, 8, 7, NULL, 0), G719_DONE, 0, 0, 0, 0));
+}
+
+/* Sees that recordings are not joined and that nothing lent is changed. */
+static void not_joined(g719_copied as, const uint8_t *src, size_t bytes, const uint32_t *lengths, size_t count, size_t room)
+{
+    uint8_t out[EXCESS];
+    memset(out, KEPT, sizeof out);
+    g719_copied c = g719_join(src, bytes, lengths, count, out, room);
+    CHECK(same_copied(c, as.reply, as.which, as.count, as.place, 0) && all_bytes(out, sizeof out, KEPT));
+}
+
+static g719_copied refusal(uint8_t reply, uint8_t which, uint32_t count, size_t place)
+{
+    g719_copied c = { reply, which, count, place, 0 };
+    return c;
+}
+
+/* Two recordings; what is wrong with the second is told from its own start. */
+static void refused_joins(void)
+{
+    static const uint8_t zeros[G719_MOST_FRAMES + 2];
+    static const uint8_t replies[3] = { G719_NORM_OUTSIDE, G719_NO_WORD, G719_PAST_BUDGET };
+    static const uint8_t heads[3] = { 0x80, 0x04, 0x20 };
+    static const uint32_t nine[9] = { 1, 1, 1, 1, 1, 1, 1, 1, 1 };
+    const uint32_t long_one[2] = { 2, 82 }, short_one[2] = { 2, 2 }, unequal[3] = { 1, 2, 1 };
+    not_joined(refusal(G719_CHANNELS, 0, 0, 0), heads, 3, NULL, 0, 0);
+    not_joined(refusal(G719_CHANNELS, 0, 0, 0), heads, 3, nine, 9, 0);
+    not_joined(refusal(G719_SHORT_ROOM, 0, 0, 0), heads, 3, short_one, 2, 0);
+    not_joined(refusal(G719_SHORT_ROOM, 0, 0, 0), heads, 3, (const uint32_t[2]) { UINT32_MAX, UINT32_MAX }, 2, 0);
+    uint8_t file[84] = { 0x00, 0x01, 0x02 };
+    for (int i = 0; i < 3; i++) {
+        frame_with(replies[i], file + 3);
+        not_joined(refusal(replies[i], 2, 1, 1), file, 84, long_one, 2, 0);
+        not_joined(refusal(replies[i], 1, 0, 0), file + 3, 81, (const uint32_t[2]) { 81, 0 }, 2, 0);
+    }
+    for (int i = 0; i < 3; i++) {
+        file[3] = heads[i];
+        not_joined(refusal((uint8_t)(G719_MARKED + i), 2, 1, 1), file, 4, short_one, 2, 0);
+    }
+    not_joined(refusal(G719_TOO_MANY, 2, 3000, 3000), zeros, sizeof zeros, (const uint32_t[2]) { 1, 3001 }, 2, 0);
+    not_joined(refusal(G719_CHANNELS, 0, 0, 0), zeros, 3, unequal, 2, 0);
+    not_joined(refusal(G719_CHANNELS, 0, 0, 0), zeros, 3, unequal + 1, 2, 0);
+    not_joined(refusal(G719_SHORT_ROOM, 0, 0, 0), zeros, 4, short_one, 2, 3);
+    CHECK(same_copied(g719_join(NULL, 0, (const uint32_t[8]) { 0 }, 8, NULL, 0), G719_DONE, 0, 0, 0, 0));
+}
+
+/* Draws a recording of one channel, frames of any R among them; how many bytes it has. */
+static size_t draw_recording(uint8_t *out, int frames)
+{
+    uint16_t codes[G719_CODES];
+    uint8_t tail[G719_TAIL_BYTES];
+    size_t at = 0;
+    for (int i = 0; i < frames; i++) {
+        g719_record r = draw_record((uint8_t)drawn(20), codes, tail);
+        g719_writing w = drawn(3) == 0 ? g719_write_empty(out + at, 1)
+                                       : g719_write(r, codes, G719_CODES, tail, G719_TAIL_BYTES, out + at, G719_FRAME_BYTES);
+        out[at] |= (uint8_t)drawn(4);
+        at += w.next;
+    }
+    return at;
+}
+
+/* Joins one to eight recordings and takes each out again; the join is sound. What follows the recordings is not looked at. */
+static void joined_and_taken(void)
+{
+    enum { FRAMES = 5, BYTES = MOST * FRAMES * G719_FRAME_BYTES };
+    static uint8_t src[BYTES + 1], join[BYTES + EXCESS], alone[BYTES];
+    for (uint8_t channels = 1; channels <= MOST; channels++) {
+        uint32_t lengths[MOST];
+        size_t bytes = 0;
+        for (uint8_t c = 0; c < channels; bytes += lengths[c++])
+            lengths[c] = (uint32_t)draw_recording(src + bytes, FRAMES);
+        src[bytes] = 0x80;
+        memset(join, KEPT, sizeof join);
+        g719_copied all = g719_join(src, bytes + 1, lengths, channels, join, sizeof join);
+        CHECK(same_copied(all, G719_DONE, 0, FRAMES, 0, bytes) && all_bytes(join + bytes, sizeof join - bytes, KEPT));
+        CHECK(blocks_checked(join, bytes, channels, FRAMES, G719_DONE, FRAMES, bytes));
+        size_t at = 0;
+        for (uint8_t c = 0; c < channels; at += lengths[c++]) {
+            memset(alone, KEPT, sizeof alone);
+            g719_copied one = g719_extract(join, bytes, channels, c, alone, sizeof alone);
+            CHECK(same_copied(one, G719_DONE, 0, FRAMES, bytes, lengths[c]) && memcmp(alone, src + at, lengths[c]) == 0);
+            CHECK(all_bytes(alone + lengths[c], sizeof alone - lengths[c], KEPT));
+        }
+    }
+}
+
 int main(void)
 {
     structs();
@@ -894,6 +1305,14 @@ int main(void)
     norm_arguments();
     allot_arguments();
     recordings();
+    drawn_blocks();
+    refused_blocks();
+    unwritten_blocks();
+    empty_values();
+    checked_blocks();
+    refused_extracts();
+    refused_joins();
+    joined_and_taken();
     printf("%d\n", checks);
     return 0;
 }

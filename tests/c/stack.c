@@ -18,6 +18,13 @@ static g719_record record;
 static uint16_t codes[G719_CODES];
 static uint8_t tail[G719_TAIL_BYTES];
 static uint8_t frame[G719_FRAME_BYTES];
+/* Eight such frames: as a block, and as recordings of one frame each. */
+static g719_records records;
+static uint16_t all_codes[8 * G719_CODES];
+static uint8_t all_tails[8 * G719_TAIL_BYTES];
+static uint8_t block[8 * G719_FRAME_BYTES];
+static uint8_t copy[8 * G719_FRAME_BYTES];
+static uint32_t lengths[8];
 static uint16_t index[8] = { 1, 2, 3, 4, 5, 6, 7, 8 };
 static int16_t point[8];
 static uint8_t reply;
@@ -38,6 +45,17 @@ static void lattice_index(void) { reply = g719_lattice_index(4, point).reply; }
 static void codebook_point(void) { reply = g719_codebook_point(1, 255).reply; }
 static void codebook_index(void) { reply = g719_codebook_index(1, point).reply; }
 static void check_file(void) { reply = g719_check_file(frame, sizeof frame, 1).reply; }
+static void read_block(void)
+{
+    reply = g719_read_block(block, sizeof block, 8, all_codes, 8 * G719_CODES, all_tails, sizeof all_tails).reply;
+}
+static void write_block(void)
+{
+    reply = g719_write_block(records, 8, all_codes, 8 * G719_CODES, all_tails, sizeof all_tails, block, sizeof block).reply;
+}
+static void check_blocks(void) { reply = g719_check_blocks(block, sizeof block, 8, 1).reply; }
+static void extract(void) { reply = g719_extract(block, sizeof block, 8, 7, copy, sizeof copy).reply; }
+static void join(void) { reply = g719_join(block, sizeof block, lengths, 8, copy, sizeof copy).reply; }
 
 static const struct {
     const char *name;
@@ -48,7 +66,8 @@ static const struct {
     { "choose_flag_n", choose_flag_n },   { "choose_flag_c", choose_flag_c },   { "legalise", legalise },
     { "weigh", weigh },                   { "allot", allot },                   { "lattice_point", lattice_point },
     { "lattice_index", lattice_index },   { "codebook_point", codebook_point }, { "codebook_index", codebook_index },
-    { "check_file", check_file },
+    { "check_file", check_file },         { "read_block", read_block },         { "write_block", write_block },
+    { "check_blocks", check_blocks },     { "extract", extract },               { "join", join },
 };
 
 static void *measure(void *failed)
@@ -76,7 +95,13 @@ static bool prepare(void)
     memset(record.norms, 20, sizeof record.norms);
     memcpy(point, g719_codebook_point(1, 200).at, sizeof point);
     record.tail_bits = g719_layout(record, codes, G719_CODES).tail_bits;
-    return g719_write(record, codes, G719_CODES, tail, G719_TAIL_BYTES, frame, sizeof frame).reply == G719_DONE;
+    for (int c = 0; c < 8; c++) {
+        records.at[c] = record;
+        lengths[c] = G719_FRAME_BYTES;
+    }
+    write_block();
+    return reply == G719_DONE
+        && g719_write(record, codes, G719_CODES, tail, G719_TAIL_BYTES, frame, sizeof frame).reply == G719_DONE;
 }
 
 int main(void)

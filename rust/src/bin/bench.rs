@@ -1,9 +1,10 @@
-//! Nanoseconds per call of the library and of the plain implementation, and
-//! their ratio, from one run over the same inputs.
+//! Nanoseconds per call, or per frame where a line says so, of the library and
+//! of the plain implementation, and their ratio, from one run over the same
+//! inputs.
 
 use g719::cases;
 use g719::random::Random;
-use g719::types::{Record, COEFFICIENTS, TAIL_BYTES};
+use g719::types::{Record, Records, CHANNELS, COEFFICIENTS, TAIL_BYTES};
 use g719::{library, reference};
 use std::hint::black_box;
 use std::time::{Duration, Instant};
@@ -15,7 +16,7 @@ const LONG: Duration = Duration::from_millis(1200);
 /// About how long a batch takes, in nanoseconds: short, so that some round
 /// has it to itself on a machine that does other work.
 const BATCH: f64 = 1e5;
-/// Bytes of the file that is checked.
+/// Bytes of a file that is checked, taken apart or joined.
 const FILE_BYTES: usize = 65_536;
 
 /// Runs the inputs `passes` times; gives the nanoseconds of a pass.
@@ -49,19 +50,25 @@ impl Times {
         self.reference[batch] = self.reference[batch].min(reference);
     }
 
-    fn print(&self, call: &str, inputs: usize) {
-        let of_call = |times: &[f64]| times.iter().sum::<f64>() / inputs as f64;
-        let (library, reference) = (of_call(&self.library), of_call(&self.reference));
+    /// Prints a line, with the time of one of so many calls or frames.
+    fn print(&self, call: &str, count: usize) {
+        let of_one = |times: &[f64]| times.iter().sum::<f64>() / count as f64;
+        let (library, reference) = (of_one(&self.library), of_one(&self.reference));
         println!(
-            "{call:24} {library:12.1} {reference:12.1} {:8.2}",
+            "{call:28} {library:12.1} {reference:12.1} {:8.2}",
             library / reference
         );
     }
 }
 
-/// Measures a call on both sides, batch by batch in turn, and prints a line.
+/// Measures a call on both sides, batch by batch in turn, and prints a line:
+/// per call, or per frame if it is told how many frames the inputs have.
 macro_rules! compare {
     ($call:expr, $inputs:expr, $case:ident => $function:ident($($argument:expr),*)) => {{
+        let inputs = $inputs;
+        compare!($call, inputs, inputs.len(), $case => $function($($argument),*))
+    }};
+    ($call:expr, $inputs:expr, $count:expr, $case:ident => $function:ident($($argument:expr),*)) => {{
         let inputs = $inputs;
         let all = time(inputs, 1, |$case| {
             black_box(library::$function($($argument),*));
@@ -82,7 +89,7 @@ macro_rules! compare {
                 times.take(at, library, reference);
             }
         }
-        times.print(&$call.to_string(), inputs.len());
+        times.print(&$call.to_string(), $count);
     }};
 }
 
@@ -133,6 +140,64 @@ fn file(frames: &[Frame]) -> Vec<u8> {
     file
 }
 
+/// A recording of several channels, and the recordings it is joined from.
+struct Recording {
+    channels: u8,
+    frames: usize,
+    src: Vec<u8>,
+    parts: Vec<u8>,
+    lengths: Vec<u32>,
+}
+
+/// A recording of sound frames of all modes.
+fn recording(frames: &[Frame], channels: usize) -> Recording {
+    let mut random = Random::new(channels as u64);
+    let mut parts = vec![Vec::new(); channels];
+    let (mut src, mut count) = (Vec::new(), 0);
+    while src.len() < FILE_BYTES {
+        for part in &mut parts {
+            let frame = &frames[random.below(frames.len())];
+            src.extend_from_slice(&frame.bytes);
+            part.extend_from_slice(&frame.bytes);
+            count += 1;
+        }
+    }
+    Recording {
+        channels: channels as u8,
+        frames: count,
+        src,
+        lengths: parts.iter().map(|part| part.len() as u32).collect(),
+        parts: parts.concat(),
+    }
+}
+
+/// A block of sound frames, as bytes and in parts.
+struct Block {
+    bytes: Vec<u8>,
+    records: Records,
+    codes: Vec<u16>,
+    tails: Vec<u8>,
+}
+
+fn block(frames: &[Frame]) -> Block {
+    let mut block = Block {
+        bytes: Vec::new(),
+        records: Records {
+            at: [Record::ZERO; CHANNELS],
+            empty: [false; CHANNELS],
+        },
+        codes: Vec::new(),
+        tails: Vec::new(),
+    };
+    for (frame, record) in frames.iter().zip(&mut block.records.at) {
+        *record = frame.record;
+        block.bytes.extend_from_slice(&frame.bytes);
+        block.codes.extend_from_slice(&frame.codes[..COEFFICIENTS]);
+        block.tails.extend_from_slice(&frame.tail[..TAIL_BYTES]);
+    }
+    block
+}
+
 /// Cases that the plain implementation answers with 0.
 fn sound<T>(case: impl Fn(u64) -> T, reply: impl Fn(&T) -> u8) -> Vec<T> {
     let cases = (0..).map(case).filter(|case| reply(case) == 0);
@@ -151,6 +216,23 @@ fn compare_frame_calls(frames: &[Frame]) {
     compare!("write_empty", frames, _frame => write_empty(&mut out));
     let file = file(frames);
     compare!("check_file, 64 KiB", &[file], file => check_file(file, 0));
+}
+
+/// The calls on several channels, and the file check over the same bytes.
+fn compare_channel_calls(frames: &[Frame], channels: usize) {
+    let (mut codes, mut tails) = ([0; COEFFICIENTS * CHANNELS], [0; TAIL_BYTES * CHANNELS]);
+    let mut out = vec![0; FILE_BYTES + 321 * CHANNELS];
+    let of_call = |call: &str| format!("{call}, {channels} ch., frame");
+    let blocks: Vec<Block> = frames.chunks_exact(channels).map(block).collect();
+    let (count, number) = (blocks.len() * channels, channels as u8);
+    compare!(of_call("read_block"), &blocks, count, block => read_block(&block.bytes, number, &mut codes, &mut tails));
+    compare!(of_call("write_block"), &blocks, count, block => write_block(&block.records, number, &block.codes, &block.tails, &mut out));
+    let files = &[recording(frames, channels)];
+    let count = files[0].frames;
+    compare!("check_file, the same, frame", files, count, file => check_file(&file.src, 0));
+    compare!(of_call("check_blocks"), files, count, file => check_blocks(&file.src, file.channels, 0));
+    compare!(of_call("extract"), files, count, file => extract(&file.src, file.channels, 0, &mut out));
+    compare!(of_call("join"), files, count, file => join(&file.parts, &file.lengths, &mut out));
 }
 
 /// Read and write by size and by FlagC.
@@ -220,10 +302,14 @@ fn machine() -> String {
 fn main() {
     println!("{}", machine());
     println!(
-        "{:24} {:>12} {:>12} {:>8}",
-        "ns per call", "library", "reference", "ratio"
+        "{:28} {:>12} {:>12} {:>8}",
+        "ns per call or frame", "library", "reference", "ratio"
     );
-    compare_frame_calls(&frames());
+    let frames = frames();
+    compare_frame_calls(&frames);
+    for channels in [1, 2, CHANNELS] {
+        compare_channel_calls(&frames, channels);
+    }
     compare_norm_calls();
     compare_point_calls();
     compare_kinds_of_frame();

@@ -60,7 +60,7 @@ fn long(random: &mut Random) -> (Vec<u8>, u32) {
 }
 
 /// Ends a file with a damaged frame, a turned bit or a cut.
-fn damage(random: &mut Random, src: &mut Vec<u8>) {
+pub(super) fn damage(random: &mut Random, src: &mut Vec<u8>) {
     match random.below(4) {
         0 => src.truncate(random.below(src.len() + 1)),
         1 if !src.is_empty() => {

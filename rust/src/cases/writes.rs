@@ -117,7 +117,7 @@ fn pad(random: &mut Random, case: &mut WriteCase) {
 }
 
 /// The case of a sound frame, with rooms of the size they need.
-fn case_of(random: &mut Random, sound: &Sound) -> WriteCase {
+pub(super) fn case_of(random: &mut Random, sound: &Sound) -> WriteCase {
     let out = match sound.record.mode {
         mode @ 0..=14 => 81 + 10 * usize::from(mode),
         mode => 241 + 20 * usize::from(mode - 15),

@@ -4,6 +4,7 @@
 pub(crate) mod allotment;
 pub(crate) mod bits;
 mod budget;
+mod channels;
 mod codebook;
 pub(crate) mod codes;
 mod lattice;
@@ -17,6 +18,7 @@ pub(crate) mod words;
 pub(crate) mod writer;
 
 pub use allotment::allot;
+pub use channels::{check_blocks, extract, join, read_block, write_block};
 pub use codebook::{codebook_index, codebook_point};
 pub use lattice::{lattice_index, lattice_point};
 pub use norms::{choose_flag_n, legalise};

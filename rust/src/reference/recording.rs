@@ -5,15 +5,15 @@ use super::reply;
 use crate::types::{Check, COEFFICIENTS, TAIL_BYTES};
 use std::fmt::Write;
 
-/// Most frames of a file.
-const MOST_FRAMES: u32 = 3000;
+/// Most frames of a file, or blocks of one with several channels.
+pub(super) const MOST_FRAMES: u32 = 3000;
 /// Most bytes that the lister takes.
 const MOST_BYTES: usize = 65_536;
 
 /// Reads frame after frame to the end of `src` and shows `line` each one's
 /// reply and body bytes. Gives the sound frames, and the reply and place of
 /// the end.
-fn walk(src: &[u8], mut line: impl FnMut(u32, u8, usize)) -> Check {
+pub(super) fn walk(src: &[u8], mut line: impl FnMut(u32, u8, usize)) -> Check {
     let mut codes = [0; COEFFICIENTS];
     let mut tail = [0; TAIL_BYTES];
     let mut rest = src;

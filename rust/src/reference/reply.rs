@@ -32,3 +32,6 @@ pub const TAIL: u8 = 13;
 pub const NO_DATA: u8 = 14;
 /// A byte is left after 3,000 sound frames.
 pub const TOO_MANY: u8 = 15;
+/// A channel count outside 1–8, a channel not among them, or unequal frame
+/// counts.
+pub const CHANNELS: u8 = 17;
