@@ -13,8 +13,8 @@
 ghost use Prim.Native.Nat.{_+_, _<_, _≤_};
 ghost use lib.ListN.{length};
 ghost use mathlib.Core.Path.{_≡_};
-use blocks::reading::Block;
-use blocks::writing::Records;
+use block_reader::Block;
+use block_writer::Records;
 use channels::Copied;
 use frame::Reading;
 use frame::Record;
@@ -339,7 +339,7 @@ fn read_into(
 ) -> Block {
     let k = least(n, codes.len());
     let j = least(m, tails.len());
-    blocks::reading::read_block(src, channel_count, &mut codes[..k], &mut tails[..j])
+    block_reader::read_block(src, channel_count, &mut codes[..k], &mut tails[..j])
 }
 
 fn read_and_show(src: &[u8], head: [u16; 3]) {
@@ -389,7 +389,7 @@ fn records_of(one: Record, other: Record, empty: [u8; 8]) -> Records {
 }
 
 fn write_and_show(records: Records, n: u8, codes: &[u16], tails: &[u8], out: &mut [u8]) {
-    let w = blocks::writing::write_block(records, n, codes, tails, out);
+    let w = block_writer::write_block(records, n, codes, tails, out);
     io::write_all(STDOUT_FILENO, b"w");
     show(w.reply as u64);
     show(w.next as u64);
@@ -464,7 +464,7 @@ fn show_copied(c: Copied, out: &[u8]) {
 }
 
 fn extract_and_show(src: &[u8], head: [u16; 2], out: &mut [u8]) {
-    let c = channels::extracting::extract(src, low(head[0]), low(head[1]), out);
+    let c = channels::extract(src, low(head[0]), low(head[1]), out);
     io::write_all(STDOUT_FILENO, b"x");
     show_copied(c, out);
 }
@@ -503,7 +503,7 @@ fn lengths_of(xs: [u16; 10]) -> [u32; 10]
 }
 
 fn join_and_show(src: &[u8], lengths: &[u32], out: &mut [u8]) {
-    let c = channels::joining::join(src, lengths, out);
+    let c = joining::join(src, lengths, out);
     io::write_all(STDOUT_FILENO, b"j");
     show_copied(c, out);
 }

@@ -8,8 +8,8 @@ use lib.ListN.{length, getD, take, drop}
 use lib.IntN.{ℤ, pos}
 use Rattle.ground.specs.Fills.{from, table}
 use Rattle.ground.specs.Replies.{done, outOfRange}
-use Rattle.lattice.specs.Answers.{eqZ, noPoint}
-use Rattle.lattice.specs.declared.Point.{Point}
+use Rattle.points.specs.Answers.{eqZ, noPoint}
+use Rattle.points.specs.declared.Point.{Point}
 use Rattle.codebook.specs.declared.Row.{Row}
 use Rattle.codebook.specs.Table18.{printed, -2, -1, +0, +1, +2}
 
@@ -51,10 +51,6 @@ abbrev pub classes : List Class
 classes =
     class 0 -2 +2 1 7 0 ∷ class 8 -2 +2 0 7 1 ∷ class 16 -2 +2 2 6 0 ∷ class 44 -2 +2 1 6 1 ∷ class 100 -2 +2 0 6 2 ∷ class 128 -1 +1 2 0 6 ∷
     class 156 -1 +1 4 0 4 ∷ []
-
--- "226–253: … six −1; 254 all −1; 255 all 1"
-abbrev pub six : Class
-six = class 226 -1 +1 6 0 2
 
 abbrev pub ends : List Class
 ends = class 254 -1 +1 8 0 0 ∷ class 255 -1 +1 0 0 8 ∷ []

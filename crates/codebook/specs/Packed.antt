@@ -4,7 +4,7 @@
 use mathlib.Core.Path.{_≡_}
 use mathlib.Core.Bool.{Bool, cond}
 use mathlib.Core.List.{List}
-use Prim.Native.Nat.{ℕ, zero, suc, _*_, _/_, _%_, _^_, _<_, _≤_}
+use Prim.Native.Nat.{ℕ, zero, suc, _*_, _^_, _<_, _≤_}
 use lib.Dec.{eqb}
 use lib.ListN.{getD}
 use lib.IntN.{ℤ, pos, negsuc}
@@ -20,10 +20,6 @@ weight (negsuc n) = 1
 
 unfoldable pub code : List ℤ → ℕ
 code v = sumTo (λ (i : ℕ). weight (getD v i (pos 0)) * 2 ^ i) 8
-
--- the digit of b that counts 2 ^ i
-abbrev pub digit : ℕ → ℕ → Bool
-digit b i = eqb (b / 2 ^ i % 2) 1
 
 -- the number that a place of a row has, from its two digits: of ±2 in the first half of the book, of ±1 in the second
 abbrev pub entry : Bool → Bool → Bool → ℤ

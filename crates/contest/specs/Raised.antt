@@ -5,10 +5,8 @@ use mathlib.Core.Bool.{Bool, true, false, cond}
 use mathlib.Core.List.{List, [], _∷_}
 use Prim.Native.Nat.{ℕ, zero, suc, _+_, _-_, _*_, _<_, _≤_}
 use lib.Dec.{leb, ltb}
-use lib.IntN.{ℤ}
 use lib.ListN.{getD, set}
 use Rattle.ground.specs.Fills.{table}
-use Rattle.ground.specs.Whole.{Is}
 
 pub record Band : Type 0 where
   pub size : ℕ
@@ -68,11 +66,6 @@ fresh size height competes p = record { size = size p; score = height p; rate = 
 unfoldable pub begin : (ℕ → ℕ) → (ℕ → ℕ) → (ℕ → Bool) → ℕ → Game
 begin size height competes budget = record { bands = table 44 (fresh size height competes); left = budget }
 
--- each height is its score plus 368, and leaves room for nine steps
-pub record Heights (score : ℕ → ℤ) (height : ℕ → ℕ) : Type 0 where
-  pub raised : (p : ℕ) → p < 44 → Is (score p) (height p) 368
-  pub room : (p : ℕ) → p < 44 → 288 ≤ height p
-
 -- while a band competes its rate is below 9, and its score leaves room for the steps that may follow
 pub record Ready (b : Band) : Type 0 where
   pub below : b .rate < 9
@@ -83,16 +76,3 @@ Readys b = b .competes ≡ true → Ready b
 
 abbrev pub Sound : Game → Type 0
 Sound g = (p : ℕ) → Readys (at (g .bands) p)
-
-unfoldable pub sumOf : (Band → ℕ) → List Band → ℕ
-sumOf f [] = 0
-sumOf f (b ∷ bs) = f b + sumOf f bs
-
--- of the first n steps from a score, how many were granted below s
-unfoldable pub countBelow : ℕ → ℕ → ℕ → ℕ
-countBelow s score zero = 0
-countBelow s score (suc t) = countBelow s score t + cond (ltb (score - 32 * t) s) 1 0
-
--- what a band's steps below s cost: it started 32 higher for each of them
-unfoldable pub spent : ℕ → Band → ℕ
-spent s b = b .size * countBelow s (b .score + 32 * b .rate) (b .rate)

@@ -5,18 +5,18 @@ use mathlib.Core.List.{List, _++_}
 use Prim.Native.Nat.{ℕ, _+_, _-_, _*_}
 use lib.Dec.{ltb}
 use lib.ListN.{length, replicate, take, drop}
-use Rattle.ground.specs.Fills.{table}
 use Rattle.ground.specs.Replies.{done, noByte, marked, reserved, cut, shortRoom, noData}
-use Rattle.bits.specs.Bits.{view, val, bitsOf, bytesOf}
+use Rattle.bits.specs.Bits.{bitsOf}
 use Rattle.bits.specs.Codings.{Answer, got, no, replyOf}
 use Rattle.prefix.specs.Sizes.{lengthBytes, modeBytes}
 use Rattle.prefix.specs.Prefix.{prefixOf}
 use Rattle.prefix.specs.declared.Prefix.{Prefix}
 use Rattle.prefix.specs.declared.Prefix.the-variants.{Data, NoData, NoByte, Marked, Reserved}
 use Rattle.frame.specs.Layout.{Frame, isTransient, flagL, flagN, flagC, frame}
-use Rattle.frame.specs.declared.Flags.{Flags}
+use Rattle.kinds.specs.declared.Flags.{Flags}
 use Rattle.frame.specs.declared.Record.{Record}
 use Rattle.frame.specs.declared.Reading.{Reading}
+use Rattle.tails.specs.Tails.{tailBytes}
 
 -- a reply alone; an empty frame; a frame of a mode
 pub data Outcome : Type 0 where
@@ -85,15 +85,7 @@ codesAfter codes (refused x) = codes
 codesAfter codes empty = codes
 codesAfter codes (sound mode x) = x .1 .1 .0 ++ drop 800 codes
 
--- the tail's bits from the top, the rest 0
-unfoldable pub tailBytes : List Bool → List ℕ
-tailBytes b = bytesOf 320 (b ++ replicate (2560 - length b) false)
-
 abbrev pub tailAfter : List ℕ → Outcome → List ℕ
 tailAfter tail (refused x) = tail
 tailAfter tail empty = tail
 tailAfter tail (sound mode x) = tailBytes (x .1 .1 .1 .1) ++ drop 320 tail
-
--- 320 bytes from a bit place on
-unfoldable pub tailFrom : List ℕ → ℕ → List ℕ
-tailFrom s at = table 320 (λ i. val (view s (at + i * 8) 8))

@@ -3,12 +3,10 @@
 -- combinators.
 -- Assumes nothing.
 use mathlib.Core.Path.{_≡_, refl, ap}
-use mathlib.Core.Bool.{Bool, true, false, cond}
+use mathlib.Core.Bool.{Bool, false}
 use mathlib.Core.List.{List, [], _∷_, _++_, map}
 use Prim.Native.Nat.{ℕ, _+_, _-_, _≤_, zero-le}
 use native.Mathlib.Omega.{arith}
-use lib.Dec.{eqb}
-use borrow.Author.Tests.{eq-eqb, ne-eqb}
 use lib.ListN.{length, getD, length-append}
 use Rattle.bits.specs.Numbers.{length-word}
 use Rattle.bits.specs.Codings.{fixed, got, wordOf}
@@ -16,8 +14,7 @@ use Rattle.bits.specs.Codecs.{Codec, coded, words, raw, within, pair, writeAll}
 use Rattle.words.specs.Tables.{coding}
 use Rattle.words.specs.Spell.{word-fixed}
 use Rattle.norms.specs.Part.{normPart, normBits, all-good, write-is}
-use Rattle.allotment.specs.Allotment.{sharesOf}
-use Rattle.frame.specs.Kinds.{kinds}
+use Rattle.kinds.specs.Budget.{spare, wideIn, kindsAt}
 
 -- ---- the parts
 
@@ -43,24 +40,12 @@ flagN flags = getD flags 2 false
 abbrev pub flagC : List Bool → Bool
 flagC flags = getD flags 3 false
 
--- the noise bits
-unfoldable pub spare : Bool → ℕ
-spare transient = cond transient 0 2
-
--- All 44 compete; at 80 bytes with FlagL 0 only bands 0–35
-unfoldable pub wideIn : ℕ → Bool → Bool
-wideIn total l = cond (eqb total 640) l true
-
 -- Ψ = frame bits − 4 − norm bits − 2 if stationary, after n norm bits
 abbrev pub budgetAfter : ℕ → Bool → ℕ → ℕ
 budgetAfter total transient n = total - (4 + n) - spare transient
 
 unfoldable pub budgetOf : ℕ → List Bool → List ℕ → ℕ
 budgetOf total flags norms = budgetAfter total (isTransient flags) (length (normBits (isTransient flags) (flagN flags) norms))
-
--- the kinds of the 800 places, from flags, norms and budget
-unfoldable pub kindsAt : Bool → Bool → Bool → List ℕ → ℕ → List ℕ
-kindsAt transient wide c norms budget = kinds c (sharesOf transient wide norms budget .rates)
 
 unfoldable pub kindsOf : ℕ → List Bool → List ℕ → List ℕ
 kindsOf total flags norms = kindsAt (isTransient flags) (wideIn total (flagL flags)) (flagC flags) norms (budgetOf total flags norms)
@@ -72,22 +57,6 @@ codeBits total flags norms codes = writeAll (map coding (kindsOf total flags nor
 -- what the codes leave of the budget is the tail
 unfoldable pub tailLeft : ℕ → List Bool → List ℕ → List ℕ → ℕ
 tailLeft total flags norms codes = budgetOf total flags norms - length (codeBits total flags norms codes)
-
-pub spare-none : (t : Bool) → t ≡ true → 0 ≡ spare t
-unfolding spare
-spare-none t e = rw e
-
-pub spare-two : (t : Bool) → t ≡ false → 2 ≡ spare t
-unfolding spare
-spare-two t e = rw e
-
-pub wide-small : (total : ℕ) (l : Bool) → total ≡ 640 → l ≡ wideIn total l
-unfolding wideIn
-wide-small total l e = rw (eq-eqb total 640 e)
-
-pub wide-other : (total : ℕ) (l : Bool) → (total ≡ 640 → ⊥) → true ≡ wideIn total l
-unfolding wideIn
-wide-other total l e = rw (ne-eqb total 640 e)
 
 -- ---- the codec
 

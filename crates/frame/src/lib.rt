@@ -1,17 +1,14 @@
 // The stored frame (01, Stored frame; 7.6, 7.8, 8.3, A.4.1): the record and its reading.
 ghost use mathlib.Core.Path.{_≡_};
 ghost use mathlib.Core.List.{_++_};
-ghost use Prim.Native.Nat.{ℕ, _+_, _-_, _*_, _≤_, _<_};
+ghost use Prim.Native.Nat.{_+_, _-_, _*_, _≤_, _<_};
 ghost use lib.ListN.{length, drop};
-ghost use Rattle.bits.specs.Bits.{view, bit, val};
+ghost use Rattle.bits.specs.Bits.{view, bit};
 ghost use Rattle.prefix.specs.Sizes.{modeBytes};
 ghost use Rattle.prefix.specs.Prefix.{prefixOf};
-ghost use Rattle.allotment.specs.Allotment.{sharesOf};
-ghost use Rattle.frame.specs.Kinds.{bandOf, kindOf, kinds};
-ghost use Rattle.frame.specs.Layout.{spare, wideIn, kindsAt};
-ghost use Rattle.frame.specs.Answers.{Outcome, flagsOf, stoppedAt, started, readBody, readAnswer, readingOf, codesAfter, tailAfter, tailFrom};
-ghost use Rattle.frame.specs.Reads.{Opened, BodyTold, FrameTold, madeReading};
-use ground::numbers::minus;
+ghost use Rattle.kinds.specs.Kinds.{kinds};
+ghost use Rattle.frame.specs.Answers.{flagsOf, stoppedAt, started, readBody, readAnswer, readingOf, codesAfter, tailAfter};
+ghost use Rattle.frame.specs.Inner.{Opened, BodyTold, FrameTold, madeReading};
 use ground::replies::CUT;
 use ground::replies::DONE;
 use ground::replies::MARKED;
@@ -19,10 +16,11 @@ use ground::replies::NO_BYTE;
 use ground::replies::NO_DATA;
 use ground::replies::RESERVED;
 use ground::replies::SHORT_ROOM;
+use kinds::Flags;
 use prefix::Length;
 use prefix::Prefix;
 use prefix::Rate;
-use words::runs::Run;
+use runs::Run;
 
 // A frame's record, beside 800 codes and 320 tail bytes.
 #[repr(C)]
@@ -43,104 +41,6 @@ pub struct Reading {
     pub reply: u8,
     pub next: usize,
     pub record: Record,
-}
-
-pub struct Flags {
-    pub transient: bool,
-    pub l: bool,
-    pub n: bool,
-    pub c: bool,
-}
-
-// The band of a place.
-fn band_of(i: usize) -> usize
-    requires { ⌜ i < 800 ⌝ }
-    ensures { λ r. ⌜ (r ≡ bandOf i) × (r < 44) ⌝ }
-{
-    if i < 128 {
-        return i / 8;
-    }
-    if i < 256 {
-        return 16 + (i - 128) / 16;
-    }
-    if i < 544 {
-        return 24 + (i - 256) / 24;
-    }
-    36 + (i - 544) / 32
-}
-
-// The kind of a place, from its band's rate.
-fn kind_of(flag_c: bool, rate: u8, i: usize) -> u8
-    ensures { λ r. ⌜ r ≡ kindOf «flag_c» rate i ⌝ }
-{
-    if rate == 1 {
-        if i % 8 == 0 {
-            return 8;
-        }
-        return 0;
-    }
-    if flag_c {
-        if 2 <= rate {
-            if rate <= 5 {
-                return rate + words::CODE_WORDS;
-            }
-        }
-    }
-    rate
-}
-
-// Eight places at a time: they lie in one band, and all but the first are of one kind.
-pub fn all_kinds(flag_c: bool, rates: [u8; 44]) -> [u8; 800]
-    ensures { λ r. ⌜ r ≡ kinds «flag_c» rates ⌝ }
-{
-    let mut out = [0u8; 800];
-    let mut i: usize = 0;
-    while i < 800 {
-        let rate = rates[band_of(i)];
-        let other = kind_of(flag_c, rate, i + 1);
-        out[i] = kind_of(flag_c, rate, i);
-        out[i + 1] = other;
-        out[i + 2] = other;
-        out[i + 3] = other;
-        out[i + 4] = other;
-        out[i + 5] = other;
-        out[i + 6] = other;
-        out[i + 7] = other;
-        i += 8;
-    }
-    out
-}
-
-// The noise bits: 2 if the frame is stationary.
-pub fn spare_of(transient: bool) -> usize
-    ensures { λ r. ⌜ r ≡ spare transient ⌝ }
-{
-    if transient { 0 } else { 2 }
-}
-
-// Whether bands 36 to 43 compete: FlagL acts at 80 bytes alone.
-fn wide_of(end: usize, flag_l: bool) -> bool
-    ensures { λ r. ⌜ r ≡ wideIn end «flag_l» ⌝ }
-{
-    if end == 640 { flag_l } else { true }
-}
-
-// The rates of the 44 bands in a body of `end` bits, from flags, norms and budget.
-pub fn rates_for(flags: Flags, norms: [u8; 44], budget: u32, end: usize) -> [u8; 44]
-    ensures { λ r. ⌜ r ≡ sharesOf (flags .transient) (wideIn end (flags .l)) norms budget .rates ⌝ }
-{
-    let shares = allotment::allot(flags.transient, wide_of(end, flags.l), norms, budget);
-    shares.rates
-}
-
-// The kinds of the 800 places, from flags and norms whose bits end at a place.
-fn kinds_for(flags: Flags, norms: [u8; 44], at: usize, end: usize) -> [u8; 800]
-    requires { ⌜ end < 4294967296 ⌝ }
-    ensures { λ r. ⌜ r ≡ kindsAt (flags .transient) (wideIn end (flags .l)) (flags .c) norms (end - at - spare (flags .transient)) ⌝ }
-{
-    let budget = minus(minus(end, at), spare_of(flags.transient));
-    let rates = rates_for(flags, norms, budget as u32, end);
-    all_kinds(flags.c, rates)
 }
 
 fn flag_at(s: &[u8], i: usize) -> bool
@@ -191,28 +91,6 @@ fn copy_codes(found: &[u16], codes: &mut [u16])
     }
 }
 
-// Eight bits at a place, 0 past the end.
-fn tail_byte(s: &[u8], p: usize) -> u8
-    ensures { λ r. ⌜ r ≡ val (view (now (s .entry)) p 8) ⌝ }
-{
-    if s.len() <= p / 8 {
-        return 0;
-    }
-    bits::read_bits(s, p, 8) as u8
-}
-
-// Fills the tail: 320 bytes from a bit place on.
-fn fill_tail(s: &[u8], at: usize, tail: &mut [u8])
-    requires { ⌜ (320 ≤ length (now tail)) × (at < 65536) ⌝ }
-    ensures { λ _. ⌜ now (tail .exit) ≡ tailFrom (now (s .entry)) at ++ drop 320 (now (tail .entry)) ⌝ }
-{
-    let mut i: usize = 0;
-    while i < 320 {
-        tail[i] = tail_byte(s, at + i * 8);
-        i += 1;
-    }
-}
-
 fn made_reading(
     mode: u8,
     next: usize,
@@ -253,11 +131,11 @@ fn read_rest(
     ensures { λ r. ⌜ BodyTold (now (s .entry)) (readBody mode (now (s .entry))) r (now (found .exit)) ⌝ }
 {
     let end = s.len() * 8;
-    let k = spare_of(flags.transient);
-    let kinds = kinds_for(flags, norms, at, end);
-    let run = words::runs::read_words(s, at, end - k, &kinds, found);
+    let k = kinds::spare_of(flags.transient);
+    let kinds = kinds::kinds_for(flags, norms, at, end);
+    let run = runs::read_words(s, at, end - k, &kinds, found);
     let Run::Done(next) = run else {
-        return refusal(words::runs::run_reply(run), 0);
+        return refusal(runs::run_reply(run), 0);
     };
     let noise = bits::read_bits(s, next, k);
     made_reading(
@@ -357,6 +235,6 @@ pub fn read(src: &[u8], codes: &mut [u16], tail: &mut [u8]) -> Reading
     let e = r.next;
     let at = (e - 1) * 8 - r.record.tail_bits as usize;
     copy_codes(&found, codes);
-    fill_tail(&src[1..e], at, tail);
+    tails::fill_tail(&src[1..e], at, tail);
     r
 }

@@ -4,6 +4,10 @@ ghost use Prim.Native.Nat.{_≤_};
 ghost use lib.ListN.{length, drop};
 ghost use Rattle.prefix.specs.Prefix.{prefixOf};
 ghost use Rattle.frames.specs.Places.{saidBytes, sizeAt, placeFrom};
+ghost use Rattle.frames.specs.Rooms.{roomReply};
+use ground::replies::DONE;
+use ground::replies::SHORT_ROOM;
+use ground::replies::WRONG_CHANNELS;
 use prefix::Prefix;
 
 // The bytes that the prefix byte says, with it; none where it says no frame.
@@ -57,4 +61,20 @@ pub fn place_behind(src: &[u8], at: usize, frames: usize) -> usize
         i += 1;
     }
     p
+}
+
+// 17 for other than 1 to 8 channels, 10 for under 800 numbers or 320 bytes a channel, else 0.
+pub fn room_reply(channels: usize, codes: usize, tails: usize) -> u8
+    ensures { λ r. ⌜ r ≡ roomReply channels codes tails ⌝ }
+{
+    if !recording::is_count(channels) {
+        return WRONG_CHANNELS;
+    }
+    if codes < channels * 800 {
+        return SHORT_ROOM;
+    }
+    if tails < channels * 320 {
+        return SHORT_ROOM;
+    }
+    DONE
 }

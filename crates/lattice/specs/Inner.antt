@@ -1,13 +1,11 @@
 -- What the inner functions of the code promise each other: r, and the errors raised by 32768.
 -- Assumes nothing.
 use mathlib.Core.Path.{_≡_}
-use mathlib.Core.Bool.{cond}
 use mathlib.Core.List.{List}
 use Prim.Native.Nat.{ℕ, _+_, _-_, _%_, _^_, _≤_, _<_}
-use lib.Dec.{eqb}
 use lib.ListN.{length, getD}
 use Rattle.ground.specs.Whole.{Is}
-use Rattle.lattice.specs.Lattice.{x, error, roundedSum, worst}
+use Rattle.lattice.specs.Lattice.{x, error}
 
 pub record Power (rate r : ℕ) : Type 0 where
   pub is : r ≡ 2 ^ rate
@@ -30,7 +28,3 @@ pub record Errors (r : ℕ) (k : List ℕ) (errors : List ℕ) (n : ℕ) : Type 
 -- how far a raised number is from 0
 abbrev pub away : ℕ → ℕ
 away u = (u - 32768) + (32768 - u)
-
--- the place that is changed; 8 if there is none
-unfoldable pub changedPlace : ℕ → List ℕ → ℕ
-changedPlace r k = cond (eqb (roundedSum r k % 2) 1) (worst r k) 8

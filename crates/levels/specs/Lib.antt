@@ -1,2 +1,2 @@
-pub mod Offers
 pub mod Levels
+pub mod Inner

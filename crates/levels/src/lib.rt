@@ -6,7 +6,8 @@ ghost use Prim.Native.Nat.{ℕ, _+_, _-_, _*_, _/_, _≤_, _<_};
 ghost use Rattle.ground.specs.Fills.{table};
 ghost use Rattle.ground.specs.Sums.{nth};
 ghost use Rattle.contest.specs.Bands.{lengthOf, competing};
-ghost use Rattle.levels.specs.Levels.{climb, bill, bid, bidAt, highest, Keyed, Finished, keyOf, keysOf, Room, settled};
+ghost use Rattle.levels.specs.Inner.{climb, bill, bid, bidAt, highest, Keyed, Finished, keyOf, keysOf};
+ghost use Rattle.levels.specs.Levels.{Room, settled};
 
 pub struct Ends {
     pub rates: [u8; 44],

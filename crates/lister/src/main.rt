@@ -2,7 +2,7 @@
 // bytes, for an input that could not be read, and for an argument.
 ghost use mathlib.Core.Path.{_≡_};
 ghost use lib.ListN.{length};
-ghost use Rattle.lister.specs.Reading.{told, Within};
+ghost use Rattle.lister.specs.Inner.{told, Within};
 use libc::STDERR_FILENO;
 use libc::STDIN_FILENO;
 use libc::STDOUT_FILENO;

@@ -1,33 +1,14 @@
 -- The lines of a listing (01, Lister) as bytes: numbers as digits, the line of a frame, the total line.
 -- Assumes nothing.
-use mathlib.Core.Bool.{cond}
 use mathlib.Core.List.{List, [], _∷_, _++_}
 use Prim.Native.Char.{code}
-use Prim.Native.Nat.{ℕ, zero, suc, _+_, _/_, _%_}
+use Prim.Native.Nat.{ℕ}
 use Prim.Native.String.{String, [] as nothing, _∷_ as _then_}
-use lib.Dec.{ltb}
-
--- a number below ten
-abbrev pub digit : ℕ → ℕ
-digit d = 48 + d
-
--- the last k digits of n, the first at the front
-unfoldable pub digits : ℕ → ℕ → List ℕ
-digits zero n = []
-digits (suc k) n = digits k (n / 10) ++ (digit (n % 10) ∷ [])
+use Rattle.decimals.specs.Decimals.{digits, decimal}
 
 -- four digits, zeros in front
 abbrev pub four : ℕ → List ℕ
 four n = digits 4 n
-
--- as many digits as n has, at most k of them; 0 has one
-unfoldable pub decimalBy : ℕ → ℕ → List ℕ
-decimalBy zero n = []
-decimalBy (suc k) n = cond (ltb n 10) (digit n ∷ []) (decimalBy k (n / 10) ++ (digit (n % 10) ∷ []))
-
--- all digits of n, without zeros in front: n has no more than n + 1
-unfoldable pub decimal : ℕ → List ℕ
-decimal n = decimalBy (suc n) n
 
 abbrev pub space : List ℕ
 space = 32 ∷ []

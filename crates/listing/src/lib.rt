@@ -2,10 +2,10 @@
 ghost use mathlib.Core.Path.{_≡_};
 ghost use Prim.Native.Nat.{_+_, _-_, _≤_, _<_};
 ghost use lib.ListN.{length};
-ghost use Rattle.listing.specs.Text.{digits, decimal, frameLine, totalLine};
+ghost use Rattle.listing.specs.Text.{frameLine, totalLine};
 ghost use Rattle.ground.specs.Laying.{Laid};
 ghost use Rattle.listing.specs.Listing.{room, listedIn, outAfter};
-ghost use Rattle.listing.specs.Turns.{madeLines, Complete};
+ghost use Rattle.listing.specs.Inner.{madeLines, Complete};
 ghost use Rattle.recording.specs.Walk.{madeCheck};
 use ground::bytes::put;
 use ground::replies::DONE;
@@ -36,49 +36,6 @@ pub struct Lines {
     pub next: usize,
 }
 
-// Puts the last k digits of a number.
-fn put_digits(out: &mut [u8], at: usize, n: usize, k: usize) -> usize
-    requires { ⌜ at + k ≤ length (now out) ⌝ }
-    ensures { λ r. ⌜ Laid (now (out .entry)) at (digits k n) (now (out .exit)) r ⌝ }
-{
-    let mut i = k;
-    let mut rest = n;
-    while 0 < i {
-        i -= 1;
-        out[at + i] = 48 + (rest % 10) as u8;
-        rest /= 10;
-    }
-    at + k
-}
-
-// How many digits a number has.
-fn places(n: usize) -> usize
-    requires { ⌜ n < 100000 ⌝ }
-    ensures { λ r. ⌜ decimal n ≡ digits r n ⌝ }
-{
-    if n < 10 {
-        return 1;
-    }
-    if n < 100 {
-        return 2;
-    }
-    if n < 1000 {
-        return 3;
-    }
-    if n < 10000 {
-        return 4;
-    }
-    5
-}
-
-// Puts a number without zeros in front.
-fn put_decimal(out: &mut [u8], at: usize, n: usize) -> usize
-    requires { ⌜ (n < 100000) × (at + length (decimal n) ≤ length (now out)) ⌝ }
-    ensures { λ r. ⌜ Laid (now (out .entry)) at (decimal n) (now (out .exit)) r ⌝ }
-{
-    put_digits(out, at, n, places(n))
-}
-
 fn wide(x: u8) -> usize
     ensures { λ r. ⌜ (r ≡ x) × (r < 256) ⌝ }
 {
@@ -91,11 +48,11 @@ fn put_line(out: &mut [u8], at: usize, number: usize, reply: u8, bytes: usize) -
     ensures { λ r. ⌜ Laid (now (out .entry)) at (frameLine number reply bytes) (now (out .exit)) r ⌝ }
 {
     let x = wide(reply);
-    let a = put_digits(out, at, number, 4);
+    let a = decimals::put_digits(out, at, number, 4);
     let b = put(out, a, b" ");
-    let c = put_decimal(out, b, x);
+    let c = decimals::put_decimal(out, b, x);
     let d = put(out, c, b" ");
-    let e = put_decimal(out, d, bytes);
+    let e = decimals::put_decimal(out, d, bytes);
     put(out, e, b"\n")
 }
 
@@ -106,11 +63,11 @@ fn put_total(out: &mut [u8], at: usize, count: usize, reply: u8, place: usize) -
 {
     let x = wide(reply);
     let a = put(out, at, b"total ");
-    let b = put_decimal(out, a, count);
+    let b = decimals::put_decimal(out, a, count);
     let c = put(out, b, b" answer ");
-    let d = put_decimal(out, c, x);
+    let d = decimals::put_decimal(out, c, x);
     let e = put(out, d, b" at ");
-    let f = put_decimal(out, e, place);
+    let f = decimals::put_decimal(out, e, place);
     put(out, f, b"\n")
 }
 

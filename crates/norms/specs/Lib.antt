@@ -1,10 +1,4 @@
-pub mod Order
 pub mod Steps
-pub mod Legal
 pub mod Part
-pub mod Loops
 pub mod Answers
-pub mod Reads
-pub mod Greatest
-pub mod Stars
-pub mod Sure
+pub mod Inner

@@ -2,25 +2,18 @@
 -- (FlagN 1). Reading is refused as soon as an index leaves 0 to 39.
 -- Assumes nothing.
 use mathlib.Core.Path.{_≡_, refl, sym, ap, _∙_, subst}
-use mathlib.Core.Bool.{Bool, true, false, cond, _&&_}
+use mathlib.Core.Bool.{Bool, true, false, cond}
 use mathlib.Core.List.{List, [], _∷_, _++_, map}
-use Prim.Native.Nat.{ℕ, zero, suc, _+_, _-_, _*_, _≤_, _<_}
+use Prim.Native.Nat.{ℕ, zero, suc, _<_}
 use native.Mathlib.Omega.{arith}
-use lib.Dec.{T, leb, leb→le}
-use lib.ListN.{length, getD, replicate, length-append, length-map}
-use Rattle.ground.specs.Cases.{and-T}
-use Rattle.ground.specs.Tables.{every, every-at}
-use Rattle.bits.specs.Bits.{word}
-use Rattle.bits.specs.Numbers.{length-word}
-use Rattle.bits.specs.Codings.{Coding, got, no, wordOf, Fit}
+use lib.ListN.{length, replicate, length-map}
+use Rattle.bits.specs.Codings.{got, no, Fit}
 use Rattle.bits.specs.Codecs.{Codec, Check, fine, bad, checked, words, writeAll, readAll, GoodAll, FitAll}
 use Rattle.words.specs.Tables.{coding, table16, words as wordsOf}
 use Rattle.words.specs.Answers.{good-coding, coding-fixed, coding-column}
-use Rattle.words.specs.Spell.{word-fixed, word-column}
 use Rattle.bits.specs.declared.Refusal.{Refusal}
-use Rattle.words.specs.Runs.{fit-length}
-use Rattle.words.specs.Writes.{run-few}
-use Rattle.norms.specs.Order.{sent, banded, sent-banded, banded-sent, length-banded, length-sent}
+use Rattle.runs.specs.Runs.{fit-length}
+use Rattle.order.specs.Order.{sent, banded, sent-banded, banded-sent, length-banded, length-sent}
 use Rattle.norms.specs.Steps.{numbers, indices, Near, Below, indices-sound, indices-whole, length-numbers}
 
 -- ---- definitions
@@ -95,14 +88,6 @@ pub kinds-long : (flagN : Bool) → length (normKinds flagN) ≡ 44
 unfolding normKinds
 kinds-long flagN = refl
 
-pub kinds-plain : (flagN : Bool) → flagN ≡ false → replicate 44 5 ≡ normKinds flagN
-unfolding normKinds
-kinds-plain flagN e = rw e
-
-pub kinds-words : (flagN : Bool) → flagN ≡ true → 5 ∷ replicate 43 20 ≡ normKinds flagN
-unfolding normKinds
-kinds-words flagN e = rw e
-
 -- ---- the codec
 
 module _ (transient flagN : Bool) where
@@ -174,70 +159,3 @@ module _ (transient flagN : Bool) where
       → normPart .read b ≡ got (banded transient ss) r
   unfolding normPart words
   part-got b r ws ss e f = rw (e, f)
-
--- ---- how long the part is
-
-module _ (c : Coding) (least most : ℕ) (each : (v : ℕ) → Fit c v → (least ≤ length (wordOf c v)) × (length (wordOf c v) ≤ most)) where
-  run-long : (n : ℕ) (vs : List ℕ) → FitAll (replicate n c) vs → (least * n ≤ length (writeAll (replicate n c) vs)) × (length (writeAll (replicate n c) vs) ≤ most * n)
-  unfolding writeAll
-  run-long zero [] f = (omega arith, omega arith)
-  run-long zero (v ∷ vs) f = absurd f
-  run-long (suc n) [] f = absurd f
-  run-long (suc n) (v ∷ vs) f =
-      let e = each v (f .0) in
-      let r = run-long n vs (f .1) in
-      let l = length-append (wordOf c v) (writeAll (replicate n c) vs) in
-      (omega (arith, e .0, r .0), omega (arith, e .1, r .1))
-
--- the words of Table 16 have 3 to 7 bits
-sizes16 : T (every (λ (v : ℕ) (w : List Bool). leb 3 (length w) && leb (length w) 7) 0 (wordsOf 4))
-unfolding wordsOf table16 word
-sizes16 = tt
-
-word16 : (v : ℕ) → Fit (coding 20) v → (3 ≤ length (wordOf (coding 20) v)) × (length (wordOf (coding 20) v) ≤ 7)
-word16 v f =
-    let h : v < length (wordsOf 4) = rw (coding-column 20 (omega arith)) at f in
-    let w = getD (wordsOf 4) v [] in
-    let t = and-T (leb 3 (length w)) (leb (length w) 7) (every-at (λ (v : ℕ) (w : List Bool). leb 3 (length w) && leb (length w) 7) (wordsOf 4) [] sizes16 v h) in
-    rw (coding-column 20 (omega arith), word-column 4 v) (leb→le 3 (length w) (t .0), leb→le (length w) 7 (t .1))
-
-word5 : (v : ℕ) → length (wordOf (coding 5) v) ≡ 5
-word5 v = rw (coding-fixed 5 (omega arith), word-fixed 5 v) (length-word 5 v)
-
--- the first index alone, and the 43 others
-pub bits-split : (flagN : Bool) (w : ℕ) (ws : List ℕ) → length (writeAll (map coding (normKinds flagN)) (w ∷ ws)) ≡ 5 + length (writeAll (map coding (replicate 43 (cond flagN 20 5))) ws)
-unfolding normKinds writeAll
-bits-split flagN w ws = omega (arith, length-append (wordOf (coding 5) w) (writeAll (map coding (replicate 43 (cond flagN 20 5))) ws), word5 w)
-
--- with FlagN 0 each number has five bits
-plain-long : (ws : List ℕ) → FitAll (map coding (normKinds false)) ws → length (writeAll (map coding (normKinds false)) ws) ≡ 220
-unfolding normKinds
-plain-long [] f = absurd f
-plain-long (w ∷ ws) f =
-    let r = run-long (coding 5) 5 5 (λ v g. (omega (arith, word5 v), omega (arith, word5 v))) 43 ws (f .1) in
-    omega (arith, r .0, r .1, bits-split false w ws)
-
-part-long : (flagN : Bool) (ws : List ℕ) → FitAll (map coding (normKinds flagN)) ws
-    → (134 ≤ length (writeAll (map coding (normKinds flagN)) ws)) × (length (writeAll (map coding (normKinds flagN)) ws) ≤ 306)
-unfolding normKinds
-part-long flagN [] f = absurd f
-part-long true (w ∷ ws) f =
-    let r = run-long (coding 20) 3 7 word16 43 ws (f .1) in
-    let s = bits-split true w ws in
-    (omega (arith, r .0), omega (arith, r .1))
-part-long false (w ∷ ws) f = let e = plain-long (w ∷ ws) f in (omega arith, omega arith)
-
--- the norm part has 134 to 306 bits, and 220 with FlagN 0
-pub norm-bits : (transient flagN : Bool) (norms : List ℕ) → Writable transient norms
-    → (134 ≤ length (normBits transient flagN norms)) × (length (normBits transient flagN norms) ≤ 306)
-unfolding normBits words
-norm-bits transient flagN norms w = part-long flagN (numbersOf transient norms) (norms-whole transient flagN norms w .1)
-
-pub plain-bits : (transient : Bool) (norms : List ℕ) → Writable transient norms → length (normBits transient false norms) ≡ 220
-unfolding normBits words
-plain-bits transient norms w = plain-long (numbersOf transient norms) (norms-whole transient false norms w .1)
-
--- of any norms at most 704 bits
-pub bits-few : (transient flagN : Bool) (norms : List ℕ) → length (normBits transient flagN norms) ≤ 704
-unfolding normBits
-bits-few transient flagN norms = omega (arith, run-few (normKinds flagN) (numbersOf transient norms), kinds-long flagN)

@@ -1,33 +1,22 @@
-// The 44 norm indices as they stand in a frame: sent order, reading, writing, legalising, and the FlagN choice (7.4, 8.2).
+// The 44 norm indices as they stand in a frame: read, written and counted, and the FlagN choice (7.4, 8.2).
 ghost use mathlib.Core.Path.{_≡_};
-ghost use Prim.Native.Nat.{ℕ, _+_, _-_, _≤_, _<_, min};
-ghost use lib.ListN.{length, getD};
+ghost use Prim.Native.Nat.{_+_, _-_, _<_};
+ghost use lib.ListN.{length};
 ghost use Rattle.bits.specs.Bits.{view, laid};
-ghost use Rattle.ground.specs.Fills.{table};
-ghost use Rattle.norms.specs.Order.{pick, sent, banded};
 ghost use Rattle.norms.specs.Steps.{indices, numbers, stepsClose};
-ghost use Rattle.norms.specs.Legal.{capped, lowered, held, legalSent};
 ghost use Rattle.norms.specs.Part.{normKinds, normPart, normBits};
-ghost use Rattle.norms.specs.Answers.{partOf, indicesOf, normReply, choiceOf, legalised};
+ghost use Rattle.norms.specs.Answers.{partOf, normReply, choiceOf};
+ghost use Rattle.norms.specs.Inner.{indicesOf};
 use ground::replies::DONE;
 use ground::replies::FAR_APART;
 use ground::replies::NORM_OUTSIDE;
 use ground::replies::OUT_OF_RANGE;
-use words::runs::Run;
-
-mod tables;
+use runs::Run;
 
 // What reading the norm part answers: 0 with the next place and the norms in band order, or 5 or 7 with zeros.
 pub struct NormPart {
     pub reply: u8,
     pub next: usize,
-    pub norms: [u8; 44],
-}
-
-// What legalising answers: 0 with the legal norms in band order, or 8 with zeros.
-#[repr(C)]
-pub struct Legal {
-    pub reply: u8,
     pub norms: [u8; 44],
 }
 
@@ -41,42 +30,6 @@ pub struct Choice {
 struct Indices {
     sound: bool,
     norms: [u8; 44],
-}
-
-// The norms in another order: at each place the one that a lent table names.
-fn reordered(at: &[usize; 44], norms: [u8; 44]) -> [u8; 44]
-    requires { ⌜ (length (now at) ≡ 44) × ((k : ℕ) → k < 44 → getD (now at) k 0 < 44) ⌝ }
-    ensures { λ r. ⌜ r ≡ table 44 (pick (now (at .entry)) norms) ⌝ }
-{
-    let mut out = [0u8; 44];
-    let mut i: usize = 0;
-    while i < 44 {
-        out[i] = norms[at[i]];
-        i += 1;
-    }
-    out
-}
-
-// From band order to sent order.
-pub fn sent_order(transient: bool, norms: [u8; 44]) -> [u8; 44]
-    ensures { λ r. ⌜ r ≡ sent transient norms ⌝ }
-{
-    if !transient {
-        return norms;
-    }
-    let bands = tables::ORDER;
-    reordered(&bands, norms)
-}
-
-// From sent order to band order.
-pub fn band_order(transient: bool, ss: [u8; 44]) -> [u8; 44]
-    ensures { λ r. ⌜ r ≡ banded transient ss ⌝ }
-{
-    if !transient {
-        return ss;
-    }
-    let places = tables::PLACES;
-    reordered(&places, ss)
 }
 
 fn wide(x: u8) -> u16
@@ -95,12 +48,6 @@ fn minus(a: u16, b: u16) -> u16
     ensures { λ r. ⌜ r ≡ a - b ⌝ }
 {
     if b < a { a - b } else { 0 }
-}
-
-fn smaller(a: u8, b: u8) -> u8
-    ensures { λ r. ⌜ r ≡ min a b ⌝ }
-{
-    if a < b { a } else { b }
 }
 
 // The indices in sent order from the numbers sent; unsound where one leaves 0 to 39.
@@ -165,10 +112,10 @@ pub fn read_norms(s: &[u8], at: usize, end: usize, transient: bool, flag_n: bool
 {
     let mut ws = [0u16; 44];
     let kinds = norm_kinds(flag_n);
-    let run = words::runs::read_words(s, at, end, &kinds, &mut ws);
+    let run = runs::read_words(s, at, end, &kinds, &mut ws);
     let Run::Done(next) = run else {
         return NormPart {
-            reply: words::runs::run_reply(run),
+            reply: runs::run_reply(run),
             next: 0,
             norms: [0u8; 44],
         };
@@ -183,7 +130,7 @@ pub fn read_norms(s: &[u8], at: usize, end: usize, transient: bool, flag_n: bool
         };
     }
     let ss = found.norms;
-    let norms = band_order(transient, ss);
+    let norms = order::band_order(transient, ss);
     NormPart {
         reply: DONE,
         next,
@@ -197,8 +144,8 @@ pub fn write_norms(s: &mut [u8], at: usize, transient: bool, flag_n: bool, norms
     ensures { λ r. ⌜ (r ≡ length (normBits transient «flag_n» norms)) × (now (s .exit) ≡ laid (now (s .entry)) at (normBits transient «flag_n» norms)) ⌝ }
 {
     let kinds = norm_kinds(flag_n);
-    let ws = numbers_of(sent_order(transient, norms));
-    words::runs::write_words(s, at, &kinds, &ws)
+    let ws = numbers_of(order::sent_order(transient, norms));
+    runs::write_words(s, at, &kinds, &ws)
 }
 
 // How many bits the norm part has.
@@ -206,8 +153,8 @@ pub fn norm_bits(transient: bool, flag_n: bool, norms: [u8; 44]) -> usize
     ensures { λ r. ⌜ r ≡ length (normBits transient «flag_n» norms) ⌝ }
 {
     let kinds = norm_kinds(flag_n);
-    let numbers = numbers_of(sent_order(transient, norms));
-    words::runs::run_bits(&kinds, &numbers)
+    let numbers = numbers_of(order::sent_order(transient, norms));
+    runs::run_bits(&kinds, &numbers)
 }
 
 // Whether each difference of indices in sent order is -15 to 16.
@@ -239,7 +186,7 @@ pub fn norm_reply(transient: bool, norms: [u8; 44]) -> u8
     if 31 < norms[0] {
         return OUT_OF_RANGE;
     }
-    if steps_close(sent_order(transient, norms)) {
+    if steps_close(order::sent_order(transient, norms)) {
         return DONE;
     }
     FAR_APART
@@ -256,62 +203,5 @@ pub fn choose_flag_n(transient: bool, norms: [u8; 44]) -> Choice
     Choice {
         reply: DONE,
         flag: norm_bits(transient, true, norms) < 220,
-    }
-}
-
-fn cap(ss: [u8; 44]) -> [u8; 44]
-    ensures { λ r. ⌜ r ≡ capped ss ⌝ }
-{
-    let mut out = ss;
-    out[0] = smaller(ss[0], 31);
-    out
-}
-
-// Last pair to first: an index more than 15 above its successor becomes successor + 15.
-fn lower(ss: [u8; 44]) -> [u8; 44]
-    requires { ⌜ ((k : ℕ) → getD ss k 0 ≤ 39) ⌝ }
-    ensures { λ r. ⌜ (r ≡ lowered ss) × ((k : ℕ) → getD r k 0 ≤ 39) ⌝ }
-{
-    let mut last = ss[43];
-    let mut out = [last; 44];
-    let mut i: usize = 43;
-    while 0 < i {
-        i -= 1;
-        last = smaller(ss[i], last + 15);
-        out[i] = last;
-    }
-    out
-}
-
-// First to last: an index more than 16 above its predecessor becomes predecessor + 16.
-fn hold(ss: [u8; 44]) -> [u8; 44]
-    requires { ⌜ ((k : ℕ) → getD ss k 0 ≤ 39) ⌝ }
-    ensures { λ r. ⌜ r ≡ held ss ⌝ }
-{
-    let mut last = ss[0];
-    let mut out = [last; 44];
-    let mut i: usize = 0;
-    while i < 43 {
-        i += 1;
-        last = smaller(ss[i], last + 16);
-        out[i] = last;
-    }
-    out
-}
-
-// Legal norms in band order; 8 for an index over 39. A first index over 31 is not refused: it becomes 31.
-pub fn legalise(transient: bool, norms: [u8; 44]) -> Legal
-    ensures { λ r. ⌜ r ≡ legalised transient norms ⌝ }
-{
-    if !ground::indices::in_range(&norms) {
-        return Legal {
-            reply: OUT_OF_RANGE,
-            norms: [0u8; 44],
-        };
-    }
-    let legal = hold(lower(cap(sent_order(transient, norms))));
-    Legal {
-        reply: DONE,
-        norms: band_order(transient, legal),
     }
 }

@@ -130,7 +130,7 @@ fn part_rows(transient: bool, flag_n: bool, norms: [u8; 44]) {
 // and read back.
 fn norm_rows(transient: bool, norms: [u8; 44]) {
     let choice = norms::choose_flag_n(transient, norms);
-    let legal = norms::legalise(transient, norms);
+    let legal = legal::legalise(transient, norms);
     title(
         b"norms",
         norms::norm_reply(transient, norms) as u64,
@@ -141,7 +141,7 @@ fn norm_rows(transient: bool, norms: [u8; 44]) {
         b"legal",
         legal.reply as u64,
         check(&legal.norms),
-        check(&norms::sent_order(transient, norms)),
+        check(&order::sent_order(transient, norms)),
     );
     part_rows(transient, false, legal.norms);
     part_rows(transient, true, legal.norms);
@@ -187,7 +187,7 @@ fn sent_rows(first: u16, second: u16, third: u16, flag_n: bool) {
     numbers[1] = second;
     numbers[2] = third;
     let mut s = [0u8; 40];
-    words::runs::write_words(&mut s, 0, &kinds, &numbers);
+    runs::write_words(&mut s, 0, &kinds, &numbers);
     reads(s, flag_n);
 }
 
@@ -240,8 +240,8 @@ fn leaves() {
 }
 
 fn main() {
-    order_row(norms::sent_order(true, rising()));
-    order_row(norms::band_order(true, rising()));
+    order_row(order::sent_order(true, rising()));
+    order_row(order::band_order(true, rising()));
     bounds();
     draws();
     leaves();

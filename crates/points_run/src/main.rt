@@ -3,8 +3,8 @@
 ghost use Prim.Native.Nat.{_+_, _<_, _≤_};
 ghost use lib.ListN.{length};
 use codebook::Row;
-use lattice::Index;
-use lattice::Point;
+use points::Index;
+use points::Point;
 
 fn digit(b: u8) -> u32
     ensures { λ d. ⌜ d < 16 ⌝ }
@@ -98,16 +98,16 @@ fn run_line(s: &[u8], at: usize)
     let call = s[at];
     let rate = byte(s, at + 2) as u8;
     if call == b'p' {
-        print_point(lattice::lattice_point(rate, &indices(s, at)));
+        print_point(points::lattice_point(rate, &indices(s, at)));
     }
     if call == b'i' {
-        print_index(lattice::lattice_index(rate, &coordinates(s, at)));
+        print_index(points::lattice_index(rate, &coordinates(s, at)));
     }
     if call == b'r' {
         print_point(codebook::codebook_point(rate, word(s, at + 5) as u16));
     }
     if call == b'n' {
-        print_row(codebook::codebook_index(rate, &coordinates(s, at)));
+        print_row(row_search::codebook_index(rate, &coordinates(s, at)));
     }
 }
 

@@ -10,29 +10,30 @@ use lib.ListN.{length, take, drop}
 use borrow.Author.Tests.{eq-eqb}
 use Rattle.ground.specs.Cases.{by-bool}
 use Rattle.ground.specs.Replies.{done, cut, notAsBooked, tooMany, wrongChannels}
-use Rattle.ground.specs.Runs.{runs, runs-same, part}
+use Rattle.ground.specs.Runs.{runs, part}
+use Rattle.ground.proofs.Laws.Runs.{runs-same}
 use Rattle.bits.specs.Bits.{Bytes}
 use Rattle.ground.specs.Sums.{nth}
 use Rattle.recording.specs.Walk.{madeCheck, mostFrames, checkOf}
 use Rattle.recording.specs.Frames.{Frames}
 use Rattle.recording.specs.Blocks.{Blocks, isCount, checkBlocks}
-use Rattle.recording.specs.Checked as checked
+use Rattle.recording.proofs.Laws.Checked as checked
 use Rattle.recording.specs.declared.answer.Check.{Check}
-use Rattle.recording.proofs.BlockLaws as blocks
+use Rattle.recording.proofs.Laws.Blocks as blocks
 use Rattle.frames.specs.Places.{placeOf, frameAt}
-use Rattle.blocks.specs.Reading as reading
-use Rattle.blocks.specs.Writing as writing
-use Rattle.blocks.specs.declared.writing.Records.{Records}
-use Rattle.blocks.proofs.RoundTrips as round
-use Rattle.channels.specs.Copies.{checkAnswer, extracted, extractAnswer, extractAfter, ownCheck, recordingAt, startOf, joined, joinedOf, joinAnswer, joinAfter, madeCopy}
-use Rattle.channels.specs.Turns.{Lying}
+use Rattle.block_reader.specs.Reading as reading
+use Rattle.block_writer.specs.Writing as writing
+use Rattle.block_writer.specs.declared.Records.{Records}
+use Rattle.block_writer.proofs.Laws.RoundTrips as round
+use Rattle.channels.specs.Copies.{checkAnswer, extracted, extractAnswer, extractAfter, madeCopy}
+use Rattle.joining.specs.Joining.{ownCheck, recordingAt, startOf, joined, joinedOf, joinAnswer, joinAfter, Lying}
 use Rattle.channels.specs.declared.Copied.{Copied}
-use Rattle.channels.proofs.ExtractLaws.{among-of, extract-done}
-use Rattle.channels.proofs.ChannelLaws.{joined-blocks, extracted-joined, extracted-frames, joined-extracted}
-use Rattle.channels.proofs.JoinTold.{Joinable, join-told, join-made, joined-is, joined-length}
-use Rattle.channels.proofs.WalkLaws.{walk-made, check-counted}
-use Rattle.channels.proofs.JoinLaws.{length-recording}
-use Rattle.channels.proofs.CutLaws as cuts
+use Rattle.channels.proofs.Laws.Extracting.{among-of, extract-done}
+use Rattle.joining.proofs.Laws.Channels.{joined-blocks, extracted-joined, extracted-frames, joined-extracted}
+use Rattle.joining.proofs.Laws.JoinTold.{Joinable, join-told, join-made, joined-is, joined-length}
+use Rattle.channels.proofs.Laws.Walks.{walk-made, check-counted}
+use Rattle.joining.proofs.Laws.Joining.{length-recording}
+use Rattle.channels.proofs.Laws.Cuts as cuts
 
 -- what a reply of 0 of the check says
 whole-blocks : (src : List ℕ) (n booking : ℕ) → checkAnswer src n booking .reply ≡ done → (1 ≤ n) × (n ≤ 8) × Blocks n booking src × (booking ≤ mostFrames)

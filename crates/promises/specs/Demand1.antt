@@ -22,7 +22,7 @@ use Rattle.bits.specs.Bits.{view}
 use Rattle.bits.specs.Codings.{Coding, fixed, prefix, Answer, got, no, orElse, find, strip, keep, below as belowIn, whole, unword}
 use Rattle.words.specs.Tables.{coding}
 use Rattle.words.specs.Answers.{placed, wordAt, numberOf}
-use Rattle.words.specs.Runs.{passedUp, runReply}
+use Rattle.runs.specs.Runs.{passedUp, runReply}
 use Rattle.words.specs.declared.Word.{Word}
 use Rattle.words.specs.declared.Word.the-variants.{At, No}
 use Rattle.prefix.specs.Sizes.{modeBytes}
@@ -31,49 +31,53 @@ use Rattle.prefix.specs.declared.Prefix.{Prefix}
 use Rattle.prefix.specs.declared.Prefix.the-variants.{Data, NoData, NoByte, Marked, Reserved}
 use Rattle.prefix.specs.declared.Byte.{Byte}
 use Rattle.prefix.specs.declared.Byte.the-variants.{Is, OutOfRange}
-use Rattle.norms.specs.Order.{sent}
+use Rattle.order.specs.Order.{sent}
 use Rattle.norms.specs.Steps.{stepsClose}
-use Rattle.norms.specs.Answers.{normReply, choiceOf as flagN, legalised}
+use Rattle.norms.specs.Answers.{normReply, choiceOf as flagN}
+use Rattle.legal.specs.Answers.{legalised}
 use Rattle.norms.specs.declared.Choice.{Choice}
-use Rattle.norms.specs.declared.Legal.{Legal}
+use Rattle.legal.specs.declared.Legal.{Legal}
 use Rattle.weights.specs.Weights.{weighed}
 use Rattle.weights.specs.declared.Weights.{Weights}
 use Rattle.allotment.specs.Allotment.{sharesOf}
 use Rattle.allotment.specs.declared.Shares.{Shares}
 use Rattle.lattice.specs.Lattice.{back}
-use Rattle.lattice.specs.Answers.{owns, below, agree, pointOf, indexOf}
-use Rattle.lattice.specs.declared.Point.{Point}
-use Rattle.lattice.specs.declared.Index.{Index}
+use Rattle.points.specs.Answers.{owns, below, agree, pointOf, indexOf}
+use Rattle.points.specs.declared.Point.{Point}
+use Rattle.points.specs.declared.Index.{Index}
 use Rattle.codebook.specs.Codebook.{eight, book, placeOf, rowPoint, rowIndex}
 use Rattle.codebook.specs.declared.Row.{Row}
 use Rattle.frame.specs.Answers.{Outcome, refused, empty, sound, readAnswer, noRecord, readingOf, codesAfter, tailAfter}
 use Rattle.frame.specs.declared.Reading.{Reading}
 use Rattle.frame.specs.declared.Record.{Record}
-use Rattle.writer.specs.Tests.{quietOf, fits, clear}
-use Rattle.writer.specs.Empty.{emptyReply}
-use Rattle.writer.specs.Parts.{kindsFor, budgetFor, codesLong, startReply, partsIn, layoutOf}
-use Rattle.writer.specs.Writes.{roomReply, tailReply, writeReply, outAfter}
-use Rattle.writer.specs.Choice.{plain, choiceReply, choiceOf as flagC}
-use Rattle.writer.specs.declared.Parts.{Parts}
+use Rattle.writer.specs.Tests.{quietOf}
+use Rattle.layout.specs.Fits.{fits}
+use Rattle.tails.specs.Tails.{clear}
+use Rattle.writer.specs.Empty.{emptyReply, emptyAfter}
+use Rattle.layout.specs.Parts.{kindsFor, budgetFor, codesLong, startReply, partsIn, layoutOf}
+use Rattle.writer.specs.Writes.{roomReply, tailReply, writeReply, outAfter, writingOf}
+use Rattle.choice.specs.Choice.{plain, choiceReply, choiceOf as flagC}
+use Rattle.layout.specs.declared.Parts.{Parts}
 use Rattle.writer.specs.declared.Writing.{Writing as Written}
 use Rattle.listing.specs.Listing.{listedIn, outAfter as listed}
 use Rattle.listing.specs.declared.Listing.{Listing}
 use Rattle.recording.specs.Walk.{walk, booked, mostFrames, checkOver, checkOf}
 use Rattle.recording.specs.declared.answer.Check.{Check}
-use Rattle.recording.specs.Checked.{Number, check-replies}
-use Rattle.recording.specs.Frames.{Frames, frame-lawful}
-use Rattle.recording.specs.Units.{Told, Stop, ended, passed, met, walk-told}
+use Rattle.recording.specs.Checked.{Number}
+use Rattle.recording.proofs.Laws.Checked.{check-replies}
+use Rattle.recording.specs.Frames.{Frames}
+use Rattle.recording.proofs.Laws.Frames.{frame-lawful}
+use Rattle.recording.proofs.Laws.Units.{Told, Stop, ended, passed, met, walk-told}
 use Rattle.recording.specs.Blocks.{isCount, blockStep, walkBlocks, checkBlocks}
-use Rattle.recording.proofs.BlockLaws.{block-lawful, counted}
-use Rattle.blocks.specs.Reading as blockRead
-use Rattle.blocks.specs.Writing as blockWritten
-use Rattle.blocks.specs.declared.writing.Records.{Records}
-use Rattle.blocks.proofs.ReplyNumbers.{read-numbers, write-numbers}
-use Rattle.channels.specs.Copies.{checkAnswer, extracted, isAmong, extractAnswer, extractAfter, startOf, recordingAt, ownCheck, refusedIn, equalCounts, checkAll, joinedOf, joinAnswer, joinAfter, copiedTo}
+use Rattle.recording.proofs.Laws.Blocks.{block-lawful, counted}
+use Rattle.block_reader.specs.Reading as blockRead
+use Rattle.block_writer.specs.Writing as blockWritten
+use Rattle.block_writer.specs.declared.Records.{Records}
+use Rattle.block_writer.proofs.Laws.ReplyNumbers.{read-numbers, write-numbers}
+use Rattle.channels.specs.Copies.{checkAnswer, extracted, isAmong, extractAnswer, extractAfter, copiedTo}
+use Rattle.joining.specs.Joining.{startOf, recordingAt, ownCheck, refusedIn, equalCounts, checkAll, joinedOf, joinAnswer, joinAfter}
 use Rattle.channels.specs.declared.Copied.{Copied}
-use Rattle.channels.proofs.ExtractLaws.{among-told}
-use Rattle.writer.specs.Empty.{emptyAfter}
-use Rattle.writer.specs.Writes.{writingOf}
+use Rattle.channels.proofs.Laws.Extracting.{among-told}
 use Rattle.promises.specs.Numbers.{among, OneOf, picked}
 use Rattle.promises.specs.Reads.{each-reading}
 

@@ -12,28 +12,36 @@ use lib.ListN.{length, getD, take, drop, length-append}
 use lib.Seq.{take-at}
 use Rattle.ground.specs.Replies.{done, noWord, pastBudget}
 use Rattle.bits.specs.Bits.{view, bitsOf, bytesOf, Bytes}
-use Rattle.bits.specs.Bytes.{bits-bytes, length-bytes}
+use Rattle.bits.proofs.Laws.Bytes.{bits-bytes, length-bytes}
 use Rattle.prefix.specs.Sizes.{modeBytes}
-use Rattle.prefix.specs.Prefix.{prefixOf, byteWith, zeroR, read-some, r-ignored, read-written}
+use Rattle.prefix.specs.Prefix.{prefixOf, byteWith, zeroR}
+use Rattle.prefix.proofs.Laws.Prefix.{read-some, r-ignored, read-written}
 use Rattle.prefix.specs.declared.Prefix.the-variants.{Data}
-use Rattle.frame.specs.Kinds.{kinds}
-use Rattle.frame.specs.Layout.{Frame, frame, kindsOf, kindsAt}
+use Rattle.kinds.specs.Kinds.{kinds}
+use Rattle.frame.specs.Layout.{Frame, frame, kindsOf}
+use Rattle.kinds.specs.Budget.{kindsAt}
 use Rattle.frame.specs.Answers.{Outcome, refused, empty, sound, outcome, readBody, readAnswer, readingOf, codesAfter, tailAfter}
-use Rattle.frame.specs.Reads.{read-started, data-whole}
+use Rattle.frame.proofs.Laws.Reads.{read-started, data-whole}
 use Rattle.frame.specs.declared.Record.{Record}
-use Rattle.writer.specs.Parts.{kindsFor, budgetFor, ratesFor, codesLong, startReply, partsWith, layoutOf, laid-out, laid-told}
-use Rattle.writer.specs.Writes.{writeReply, outAfter, reply-late, Roomy, rooms-enough, late-pad}
-use Rattle.writer.specs.declared.Parts.{Parts}
-use Rattle.writer.specs.Tests.{clear, all-fits}
-use Rattle.writer.specs.Bodies.{Passed, passed, writes}
-use Rattle.writer.specs.ReadBack as readback
-use Rattle.writer.specs.WriteBack.{write-back}
-use Rattle.lattice.specs.Answers.{pointOf, indexOf, noPoint, noIndex}
-use Rattle.lattice.specs.OneToOne as lattice
+use Rattle.layout.specs.Parts.{kindsFor, budgetFor, ratesFor, codesLong, startReply, partsWith, layoutOf}
+use Rattle.layout.proofs.Laws.Parts.{laid-out, laid-told}
+use Rattle.writer.specs.Writes.{writeReply, outAfter, Roomy}
+use Rattle.writer.proofs.Laws.Writes.{reply-late, rooms-enough, late-pad}
+use Rattle.layout.specs.declared.Parts.{Parts}
+use Rattle.tails.specs.Tails.{clear}
+use Rattle.layout.proofs.Laws.Fits.{all-fits}
+use Rattle.writer.specs.Bodies.{Passed}
+use Rattle.writer.proofs.Laws.Bodies.{passed, writes}
+use Rattle.writer.proofs.Laws.ReadBack as readback
+use Rattle.writer.proofs.Laws.WriteBack.{write-back}
+use Rattle.points.specs.Answers.{pointOf, indexOf, noPoint, noIndex}
+use Rattle.points.proofs.Laws.OneToOne as lattice-laws
+use Rattle.points.specs.OneToOne as lattice
 use Rattle.codebook.specs.Codebook.{rowPoint, rowIndex, noRow}
+use Rattle.codebook.proofs.Laws.OneToOne as codebook-laws
 use Rattle.codebook.specs.OneToOne as codebook
-use Rattle.frame.proofs.PlainCodes as reading
-use Rattle.writer.proofs.PlainCodes as writing
+use Rattle.frame.proofs.Laws.PlainCodes as reading
+use Rattle.writer.proofs.Laws.PlainCodes as writing
 use Rattle.promises.specs.Reads.{each-reading}
 
 -- ---- Write back a frame that was read: its bytes return, with R zero
@@ -147,7 +155,7 @@ read-exactly mode x f rest codes tail hm hx k l hc ht =
     let s : n < length src = omega (arith, length-append b rest, lb) in
     let e : mode + 8 - 8 ≡ mode = omega arith in
     read-started src codes tail hc ht (Data (record { 0 = mode + 8 })) (sym p)
-    ∙ data-whole src (record { 0 = mode + 8 }) n (sym (Rattle.prefix.specs.Sizes.length-bytes mode hm)) s
+    ∙ data-whole src (record { 0 = mode + 8 }) n (sym (Rattle.prefix.proofs.Laws.Sizes.length-bytes mode hm)) s
     ∙ ap₂ readBody e (take-at b rest n lb)
     ∙ ap₂ (λ (i : ℕ) (y : List Bool). outcome mode (frame (i * 8) .read y)) lb (bits-bytes n w l ∙ sym (append-nil w))
     ∙ ap (outcome mode) (frame (n * 8) .back f [] k zero-le)
@@ -162,14 +170,14 @@ plain-write = writing.plain-write
 -- ---- At rates 2–9 lattice indices and points match one to one; any other point is refused
 
 pub one-to-one : (rate : ℕ) → 2 ≤ rate → rate ≤ 9 → lattice.OneToOne rate
-one-to-one = lattice.one-to-one
+one-to-one = lattice-laws.one-to-one
 
 pub other-rates : (rate : ℕ) → (2 ≤ rate → rate ≤ 9 → ⊥) → (k : List ℕ) (v : List ℤ) → (pointOf rate k ≡ noPoint) × (indexOf rate v ≡ noIndex)
-other-rates = lattice.foreign
+other-rates = lattice-laws.foreign
 
 -- rate 1 likewise, by the 256 rows of Table 18
 pub rows-one-to-one : codebook.OneToOne
-rows-one-to-one = codebook.one-to-one
+rows-one-to-one = codebook-laws.one-to-one
 
 pub other-rates-than-1 : (rate : ℕ) → (rate ≡ 1 → ⊥) → (n : ℕ) (v : List ℤ) → (rowPoint rate n ≡ noPoint) × (rowIndex rate v ≡ noRow)
-other-rates-than-1 = codebook.foreign
+other-rates-than-1 = codebook-laws.foreign

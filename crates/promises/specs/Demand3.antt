@@ -17,7 +17,7 @@ use Rattle.contest.specs.Fairness.{stepsBelow}
 use Rattle.contest.specs.Grants.{scoresTo, costBelow}
 use Rattle.allotment.specs.Allotment.{sharesOf, grantsOf}
 use Rattle.allotment.specs.Demand3.{Demand3}
-use Rattle.allotment.proofs.Fair as allotment
+use Rattle.allotment.proofs.Laws.Fair as allotment
 
 module _ (transient wide : Bool) (norms : List ℕ) (budget : ℕ) where
   -- the rate that a band is given, and the bits that are left

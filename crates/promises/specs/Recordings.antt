@@ -9,9 +9,11 @@ use Rattle.prefix.specs.Sizes.{modeBytes}
 use Rattle.frame.specs.Layout.{Frame}
 use Rattle.frame.specs.Answers.{sound}
 use Rattle.recording.specs.Walk.{storedAt, frameStep, mostFrames, checkOf}
-use Rattle.recording.specs.Frames.{Stored, Frames, frame-lawful}
+use Rattle.recording.specs.Frames.{Stored, Frames}
+use Rattle.recording.proofs.Laws.Frames.{frame-lawful}
+use Rattle.recording.proofs.Laws.Checked as checked-laws
 use Rattle.recording.specs.Checked as checked
-use Rattle.recording.specs.CutReport as cutting
+use Rattle.recording.proofs.Laws.CutReport as cutting
 
 -- k sound frames, then a part of a frame with data, at least a byte of it and not the whole: 4 at that frame's place, with k sound frames before it,
 -- whatever the booking. Only behind 3,000 frames, where no byte is read any more, it is 15
@@ -27,14 +29,14 @@ cut-report = cutting.cut-report
 pub complete : (src : List ℕ) (booking : ℕ)
     → (checkOf src booking .reply ≡ done → Frames booking src × (booking ≤ mostFrames))
     × (Frames booking src → booking ≤ mostFrames → checkOf src booking .reply ≡ done)
-complete = checked.check-whole frame-lawful
+complete = checked-laws.check-whole frame-lawful
 
 -- a cut between frames shows at the booking
 pub not-as-booked : (src : List ℕ) (booking : ℕ)
     → (checkOf src booking .reply ≡ notAsBooked → (k : ℕ) × Frames k src × (k ≤ mostFrames) × (k ≡ booking → ⊥))
     × ((k : ℕ) → Frames k src → k ≤ mostFrames → (k ≡ booking → ⊥) → checkOf src booking .reply ≡ notAsBooked)
-not-as-booked = checked.check-unbooked frame-lawful
+not-as-booked = checked-laws.check-unbooked frame-lawful
 
 -- no count is invented: in front of the place stand exactly so many sound frames, and behind it what the number says
 pub no-invented-count : (src : List ℕ) (booking : ℕ) → checked.Checked frameStep Stored src booking (checkOf src booking)
-no-invented-count = checked.check-told frame-lawful
+no-invented-count = checked-laws.check-told frame-lawful

@@ -12,26 +12,28 @@ use Rattle.bits.specs.Codecs.{writeAll}
 use Rattle.words.specs.Tables.{coding, words, table16}
 use Rattle.prefix.specs.Sizes.{tableA2, lengthBytes, modeBytes, table22}
 use Rattle.prefix.specs.Prefix.{prefixOf, prefixByte, readingOf as prefixReading}
-use Rattle.prefix.specs.Stars as prefix
-use Rattle.norms.specs.Order.{sent}
+use Rattle.prefix.proofs.Examples as prefix
+use Rattle.order.specs.Order.{sent}
 use Rattle.norms.specs.Steps.{numbers}
 use Rattle.norms.specs.Part.{normKinds, normBits}
 use Rattle.weights.specs.Weights.{weighed}
 use Rattle.weights.proofs.Examples as weights
 use Rattle.allotment.specs.Allotment.{sharesOf}
 use Rattle.allotment.proofs.Examples as allotment
-use Rattle.lattice.specs.Answers.{pointOf}
-use Rattle.lattice.specs.Stars as lattice
-use Rattle.frame.specs.Layout.{spare, wideIn, budgetOf}
+use Rattle.points.specs.Answers.{pointOf}
+use Rattle.points.proofs.Examples as lattice
+use Rattle.kinds.specs.Budget.{spare, wideIn}
+use Rattle.frame.specs.Layout.{budgetOf}
 use Rattle.frame.specs.Answers.{readAnswer, readingOf, stoppedAt}
 use Rattle.writer.specs.Writes.{bytesFor}
-use Rattle.writer.specs.Bodies.{bodyBits, body-is}
+use Rattle.writer.specs.Bodies.{bodyBits}
+use Rattle.writer.proofs.Laws.Bodies.{body-is}
 use Rattle.frame.specs.declared.Record.{Record}
 use Rattle.listing.specs.Text.{ascii}
 use Rattle.listing.specs.Listing.{listingOf}
-use Rattle.listing.specs.Examples as listing
+use Rattle.listing.proofs.Examples as listing
 use Rattle.recording.specs.Walk.{checkOf}
-use Rattle.recording.specs.Stars as recording
+use Rattle.recording.proofs.Examples as recording
 
 -- all that stands in a list of claims holds
 pub data All : List {1} (Type 0) → Type 1 where

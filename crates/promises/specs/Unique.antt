@@ -9,26 +9,26 @@ use denote.Ref.{now}
 use Rattle.prefix.proofs.read_prefix.Reads as read-prefix
 use Rattle.prefix.proofs.write_prefix.Reads as write-prefix
 use Rattle.norms.proofs.choose_flag_n.Reads as choose-flag-n
-use Rattle.norms.proofs.legalise.Reads as legalise
+use Rattle.legal.proofs.legalise.Reads as legalise
 use Rattle.weights.proofs.weigh.Reads as weigh
 use Rattle.allotment.proofs.allot.Reads as allot
-use Rattle.lattice.proofs.lattice_point.Reads as lattice-point
-use Rattle.lattice.proofs.lattice_index.Reads as lattice-index
+use Rattle.points.proofs.lattice_point.Reads as lattice-point
+use Rattle.points.proofs.lattice_index.Reads as lattice-index
 use Rattle.codebook.proofs.codebook_point.Reads as codebook-point
-use Rattle.codebook.proofs.codebook_index.Reads as codebook-index
+use Rattle.row_search.proofs.codebook_index.Reads as codebook-index
 use Rattle.frame.specs.Answers.{readAnswer, readingOf, codesAfter, tailAfter}
 use Rattle.frame.specs.declared.Reading.{Reading}
 use Rattle.frame.proofs.read.Reads as read
-use Rattle.writer.proofs.layout.Reads as layout
+use Rattle.layout.proofs.layout.Reads as layout
 use Rattle.writer.proofs.write.Reads as write
 use Rattle.writer.proofs.write_empty.Reads as write-empty
-use Rattle.writer.proofs.choice.choose_flag_c.Reads as choose-flag-c
+use Rattle.choice.proofs.choose_flag_c.Reads as choose-flag-c
 use Rattle.recording.proofs.check.Reads as check
 use Rattle.channels.proofs.check_blocks.Reads as check-blocks
-use Rattle.channels.proofs.extracting.extract.Reads as extract
-use Rattle.channels.proofs.joining.join.Reads as join
-use Rattle.blocks.proofs.reading.read_block.Reads as read-block
-use Rattle.blocks.proofs.writing.write_block.Reads as write-block
+use Rattle.channels.proofs.extract.Reads as extract
+use Rattle.joining.proofs.join.Reads as join
+use Rattle.block_reader.proofs.read_block.Reads as read-block
+use Rattle.block_writer.proofs.write_block.Reads as write-block
 use Rattle.listing.proofs.list.Reads as list
 
 -- a promise is one equation for the result and one for each slice that the call may change

@@ -1,2 +1,2 @@
-pub mod Begun
-pub mod BlockLaws
+pub mod Examples
+pub mod Laws

@@ -36,11 +36,6 @@ unfoldable pub blockStep : ℕ → List ℕ → Step
 blockStep zero s = passes 0
 blockStep (suc n) s = followed (frameStep s) (λ k. blockStep n (drop k s))
 
--- the number of a frame behind so many others of its block
-abbrev pub replyBehind : ℕ → ℕ → ℕ
-replyBehind zero x = x
-replyBehind (suc c) x = cond (eqb x noByte) cut x
-
 -- as an answer: 0 with the bytes, or the number alone
 abbrev pub passingOf : Step → Passing
 passingOf (stops x) = record { reply = x; next = 0 }

@@ -2,7 +2,5 @@ pub mod Walk
 pub mod Units
 pub mod Frames
 pub mod Blocks
-pub mod Turns
 pub mod Checked
-pub mod CutReport
-pub mod Stars
+pub mod Inner

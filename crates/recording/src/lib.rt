@@ -2,8 +2,9 @@
 // one channel and several: it goes from block to block, and with one channel a block is a frame (02, No. 2).
 ghost use mathlib.Core.Path.{_≡_};
 ghost use Prim.Native.Nat.{_≤_};
-ghost use Rattle.recording.specs.Walk.{madeCheck, isSound, checkOf};
-ghost use Rattle.recording.specs.Blocks.{isCount, replyBehind, blockStep, passingOf, walkBlocks, checkBlocks};
+ghost use Rattle.recording.specs.Walk.{madeCheck, checkOf};
+ghost use Rattle.recording.specs.Inner.{isSound, replyBehind};
+ghost use Rattle.recording.specs.Blocks.{isCount, blockStep, passingOf, walkBlocks, checkBlocks};
 use answer::Check;
 use answer::Passing;
 use ground::replies::CUT;

@@ -1,4 +1,2 @@
-pub mod Printed
 pub mod Laws
-pub mod Bridge
 pub mod Examples

@@ -1,3 +1,3 @@
 pub mod Table17
 pub mod Weights
-pub mod Raised
+pub mod Inner

@@ -17,7 +17,7 @@ ghost use Rattle.ground.specs.Fills.{table};
 ghost use Rattle.ground.specs.Sums.{nth, sumTo};
 ghost use Rattle.ground.specs.Whole.{Is};
 ghost use Rattle.weights.specs.Table17.{bandsOf, heightOf, liftOf, floorOf, rowOf};
-ghost use Rattle.weights.specs.Raised.{loud, quarter, row, up, down, excess, most, least, scaled, raisedRows};
+ghost use Rattle.weights.specs.Inner.{loud, quarter, row, up, down, excess, most, least, scaled, raisedRows};
 ghost use Rattle.weights.specs.Weights.{rowWeights, spread, weightsOf, score, scoresOf, weighed};
 ghost use Rattle.ground.specs.Indices.{inRange};
 

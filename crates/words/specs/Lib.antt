@@ -2,6 +2,4 @@ pub mod Tables
 pub mod Answers
 pub mod Look
 pub mod Spell
-pub mod Runs
-pub mod Writes
-pub mod Sure
+pub mod Inner

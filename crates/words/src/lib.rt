@@ -1,6 +1,6 @@
 // The words of a frame: as many bits as a place has, coefficient words (Table 20) and norm words (Table 16), read by one look-up and written.
 ghost use mathlib.Core.Path.{_≡_};
-ghost use Prim.Native.Nat.{ℕ, _+_, _-_, _*_, _≤_, _<_};
+ghost use Prim.Native.Nat.{_+_, _-_, _*_, _≤_, _<_};
 ghost use lib.Dec.{T};
 ghost use lib.ListN.{length, getD};
 ghost use mathlib.Core.List.{[]};
@@ -8,16 +8,18 @@ ghost use Rattle.bits.specs.Bits.{word, view, laid};
 ghost use Rattle.bits.specs.Codings.{unword, wordOf, fit};
 ghost use Rattle.words.specs.Tables.{words, column, coding};
 ghost use Rattle.words.specs.Answers.{placed, wordAt};
-ghost use Rattle.words.specs.Look.{right, lookTable};
-ghost use Rattle.words.specs.Spell.{packed, startOf, spellTable};
+ghost use Rattle.words.specs.Inner.{right, packed, startOf};
+ghost use Rattle.words.specs.Look.{lookTable};
+ghost use Rattle.words.specs.Spell.{spellTable};
 use bits::Refusal;
 use ground::numbers::minus;
+use ground::numbers::wide16;
 
-pub mod runs;
-mod tables;
+pub mod tables;
 
 // The kind of a coefficient word is its rate, 2 to 5, more than this; lower kinds are as many bits.
 pub const CODE_WORDS: u8 = 14;
+
 // The kind of a norm word.
 pub const NORM_WORDS: u8 = 20;
 
@@ -68,7 +70,7 @@ fn column_word(table: &[u8; 640], s: &[u8], at: usize, left: usize, c: usize) ->
 }
 
 // The word of a kind at a place, by a lent look-up.
-fn word_in(table: &[u8; 640], s: &[u8], at: usize, end: usize, kind: u8) -> Word
+pub fn word_in(table: &[u8; 640], s: &[u8], at: usize, end: usize, kind: u8) -> Word
     requires { ⌜ now table ≡ lookTable ⌝ }
     ensures { λ r. ⌜ r ≡ wordAt (now (s .entry)) at end kind ⌝ }
 {
@@ -92,12 +94,6 @@ pub fn word_at(s: &[u8], at: usize, end: usize, kind: u8) -> Word
 {
     let table = tables::LOOK;
     word_in(&table, s, at, end, kind)
-}
-
-fn wide16(x: u16) -> usize
-    ensures { λ r. ⌜ (r ≡ x) × (r < 65536) ⌝ }
-{
-    x as usize
 }
 
 fn start_of(c: usize) -> usize
@@ -153,7 +149,7 @@ fn spelt(table: &[u16; 92], kind: u8, v: u16) -> Spelling
 }
 
 // Writes the word of a kind for a number at a place, by lent words.
-fn put_in(table: &[u16; 92], s: &mut [u8], at: usize, kind: u8, v: u16) -> usize
+pub fn put_in(table: &[u16; 92], s: &mut [u8], at: usize, kind: u8, v: u16) -> usize
     requires { ⌜ now table ≡ spellTable ⌝ }
     ensures { λ r. ⌜ (r ≡ length (wordOf (coding kind) v)) × (now (s .exit) ≡ laid (now (s .entry)) at (wordOf (coding kind) v)) ⌝ }
 {

@@ -370,7 +370,7 @@ fn run_write(s: &[u8], at: usize) -> usize
 }
 
 fn choose_and_show(r: Record, codes: &[u16]) {
-    let c = writer::choice::choose_flag_c(r, codes);
+    let c = choice::choose_flag_c(r, codes);
     io::write_all(STDOUT_FILENO, b"c");
     show(c.reply as u64);
     show(if c.flag { 1 } else { 0 });

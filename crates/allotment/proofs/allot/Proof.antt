@@ -2,7 +2,7 @@
 -- Assumes nothing.
 use borrow.Author.Needs.{needs}
 use mathlib.Core.Path.{_∙_, sym}
-use Rattle.allotment.proofs.Laws.{heights-room, joined, shares-budget, shares-norm}
+use Rattle.allotment.proofs.Laws.Rates.{heights-room, joined, shares-budget, shares-norm}
 use Rattle.allotment.proofs.allot.Statement.{statement}
 use Rattle.allotment.proofs.allot.Tie as tie
 

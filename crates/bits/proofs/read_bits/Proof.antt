@@ -3,8 +3,8 @@ use denote.Ref.{now}
 use mathlib.Core.Path.{ap, _∙_}
 use Prim.Native.Nat.{ℕ, _/_, _%_, _-_, _*_, _^_, _≤_}
 use native.Mathlib.Omega.{arith}
-use Rattle.bits.specs.Numbers.{shifted-pos}
-use Rattle.bits.specs.Views.{view-window}
+use Rattle.bits.proofs.Laws.Numbers.{shifted-pos}
+use Rattle.bits.proofs.Laws.Views.{view-window}
 use Rattle.bits.specs.Bits.{val, view}
 use borrow.Author.Needs.{needs}
 use Rattle.bits.proofs.read_bits.Statement.{statement}

@@ -3,7 +3,7 @@ use mathlib.Core.Path.{refl}
 use native.Mathlib.Omega.{arith}
 use denote.Ref.{now}
 use Prim.Native.Nat.{_+_}
-use Rattle.bits.specs.Views.{val-window}
+use Rattle.bits.proofs.Laws.Views.{val-window}
 use borrow.Author.Needs.{needs}
 use Rattle.bits.proofs.window.Statement.{statement}
 use Rattle.bits.proofs.window.Tie as tie

@@ -5,8 +5,8 @@ use mathlib.Core.Path.{ap, _∙_}
 use Prim.Native.Nat.{ℕ, _-_, _%_, _≤_, _<_}
 use native.Mathlib.Omega.{arith}
 use Rattle.bits.specs.Bits.{word, laid}
-use Rattle.bits.specs.Numbers.{shifted-pos}
-use Rattle.bits.specs.Laid.{made, made-lt, made-laid}
+use Rattle.bits.proofs.Laws.Numbers.{shifted-pos}
+use Rattle.bits.proofs.Laws.Laid.{made, made-lt, made-laid}
 use borrow.Author.Needs.{needs}
 use Rattle.bits.proofs.write_bits.Statement.{statement}
 use Rattle.bits.proofs.write_bits.Tie as tie

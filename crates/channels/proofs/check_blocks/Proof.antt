@@ -4,8 +4,8 @@ use borrow.Author.Tests.{not-true, not-false}
 use mathlib.Core.Bool.{true}
 use mathlib.Core.Path.{_≡_, sym, _∙_}
 use Rattle.recording.specs.Blocks.{isCount}
-use Rattle.recording.proofs.BlockLaws.{counted}
-use Rattle.channels.proofs.WalkLaws.{check-uncounted, check-counted}
+use Rattle.recording.proofs.Laws.Blocks.{counted}
+use Rattle.channels.proofs.Laws.Walks.{check-uncounted, check-counted}
 use Rattle.channels.proofs.check_blocks.Statement.{statement}
 use Rattle.channels.proofs.check_blocks.Tie as tie
 

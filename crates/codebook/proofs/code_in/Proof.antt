@@ -5,7 +5,7 @@ use Prim.Native.Nat.{ℕ, _+_, _-_}
 use native.Mathlib.Omega.{arith}
 use borrow.Author.Needs.{needs}
 use lib.ListN.{getD}
-use Rattle.codebook.specs.Rows.{codes, signed, row-code, two-code, sign-code}
+use Rattle.codebook.proofs.Laws.Rows.{codes, signed, row-code, two-code, sign-code}
 use Rattle.codebook.proofs.code_in.Statement.{statement}
 use Rattle.codebook.proofs.code_in.Tie as tie
 

@@ -9,9 +9,11 @@ use lib.IntN.{pos}
 use lib.ListN.{length, getD, length-set}
 use mir.Facts.{toZ-ofZ}
 use mir.Syntax.{w16}
-use Rattle.ground.specs.Fills.{fill, filled}
-use Rattle.codebook.specs.Packed.{digit, entry}
-use Rattle.codebook.specs.Rows.{unpack, row-unpacked, row-code}
+use Rattle.ground.proofs.Laws.Fills.{fill}
+use Rattle.ground.specs.Fills.{filled}
+use Rattle.codebook.specs.Inner.{digit}
+use Rattle.codebook.specs.Packed.{entry}
+use Rattle.codebook.proofs.Laws.Rows.{unpack, row-unpacked, row-code}
 use Rattle.codebook.proofs.row_list.Statement.{statement}
 use Rattle.codebook.proofs.row_list.Tie as tie
 

@@ -6,7 +6,8 @@ use Prim.Native.Nat.{ℕ}
 use native.Mathlib.Omega.{arith}
 use borrow.Author.Needs.{needs}
 use lib.ListN.{getD}
-use Rattle.codebook.specs.Rows.{signs, sign-code}
+use Rattle.codebook.specs.Rows.{signs}
+use Rattle.codebook.proofs.Laws.Rows.{sign-code}
 use Rattle.codebook.proofs.sign_byte.Statement.{statement}
 use Rattle.codebook.proofs.sign_byte.Tie as tie
 

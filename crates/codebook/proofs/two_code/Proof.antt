@@ -6,7 +6,8 @@ use Prim.Native.Nat.{ℕ}
 use native.Mathlib.Omega.{arith}
 use borrow.Author.Needs.{needs}
 use lib.ListN.{getD}
-use Rattle.codebook.specs.Rows.{twos, two-code}
+use Rattle.codebook.specs.Rows.{twos}
+use Rattle.codebook.proofs.Laws.Rows.{two-code}
 use Rattle.codebook.proofs.two_code.Statement.{statement}
 use Rattle.codebook.proofs.two_code.Tie as tie
 

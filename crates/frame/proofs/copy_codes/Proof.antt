@@ -7,7 +7,7 @@ use denote.Ref.{now}
 use mathlib.Core.List.{List, _++_}
 use lib.ListN.{take, drop}
 use lib.Seq.{take-all}
-use Rattle.ground.specs.Copies.{Copied, copied-none, copied-more}
+use Rattle.ground.proofs.Laws.Copies.{Copied, copied-none, copied-more}
 use Rattle.frame.proofs.copy_codes.Statement.{statement}
 use Rattle.frame.proofs.copy_codes.Tie as tie
 

@@ -3,7 +3,7 @@ use mathlib.Core.Path.{ap, _∙_}
 use Prim.Native.Nat.{ℕ}
 use denote.Ref.{now}
 use lib.Dec.{eqb}
-use Rattle.frame.specs.Reads.{flag-is}
+use Rattle.frame.proofs.Laws.Reads.{flag-is}
 use borrow.Author.Needs.{needs}
 use Rattle.frame.proofs.flag_at.Statement.{statement}
 use Rattle.frame.proofs.flag_at.Tie as tie

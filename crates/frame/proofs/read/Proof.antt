@@ -6,8 +6,8 @@ use denote.Ref.{now}
 use lib.ListN.{length}
 use Rattle.prefix.specs.Prefix.{prefixOf}
 use Rattle.frame.specs.Answers.{started, readAnswer}
-use Rattle.frame.specs.Reads.{read-codes-short, read-tail-short, read-started}
-use Rattle.frame.proofs.Bodies.{given-room, given-stopped, given-place, given-done}
+use Rattle.frame.proofs.Laws.Reads.{read-codes-short, read-tail-short, read-started}
+use Rattle.frame.proofs.Laws.Bodies.{given-room, given-stopped, given-place, given-done}
 use borrow.Author.Needs.{needs}
 use Rattle.frame.proofs.read.Statement.{statement}
 use Rattle.frame.proofs.read.Tie as tie

@@ -7,9 +7,9 @@ use Rattle.bits.specs.Bits.{view}
 use Rattle.norms.specs.Part.{normPart}
 use Rattle.norms.specs.Answers.{partOf}
 use Rattle.frame.specs.Layout.{isTransient, flagN}
-use Rattle.frame.specs.Reads.{norms-refused, norms-opened}
-use Rattle.frame.specs.declared.Flags.{Flags}
-use Rattle.frame.proofs.Bodies.{body-stops}
+use Rattle.frame.proofs.Laws.Reads.{norms-refused, norms-opened}
+use Rattle.kinds.specs.declared.Flags.{Flags}
+use Rattle.frame.proofs.Laws.Bodies.{body-stops}
 use borrow.Author.Needs.{needs}
 use Rattle.frame.proofs.read_body.Statement.{statement}
 use Rattle.frame.proofs.read_body.Tie as tie

@@ -6,8 +6,8 @@ use denote.Ref.{now}
 use lib.ListN.{length}
 use Rattle.prefix.specs.Sizes.{modeBytes}
 use Rattle.frame.specs.Answers.{readingOf, readBody}
-use Rattle.frame.specs.Reads.{data-cut, data-whole, field-sized, field-mode, field-named, body-part, length-body}
-use Rattle.frame.proofs.Bodies.{frame-stops, frame-told}
+use Rattle.frame.proofs.Laws.Reads.{data-cut, data-whole, field-sized, field-mode, field-named, body-part, length-body}
+use Rattle.frame.proofs.Laws.Bodies.{frame-stops, frame-told}
 use borrow.Author.Needs.{needs}
 use Rattle.frame.proofs.read_data.Statement.{statement}
 use Rattle.frame.proofs.read_data.Tie as tie

@@ -1,6 +1,6 @@
 -- `frame::read_flags` meets its contract: the first four bits. Assumes nothing.
 use denote.Ref.{now}
-use Rattle.frame.specs.Reads.{flags-made}
+use Rattle.frame.proofs.Laws.Reads.{flags-made}
 use borrow.Author.Needs.{needs}
 use Rattle.frame.proofs.read_flags.Statement.{statement}
 use Rattle.frame.proofs.read_flags.Tie as tie

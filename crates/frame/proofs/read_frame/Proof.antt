@@ -1,7 +1,7 @@
 -- `frame::read_frame` meets its contract, in 01's order. Assumes nothing.
 use mathlib.Core.Path.{refl, sym, _∙_}
 use native.Mathlib.Omega.{arith}
-use Rattle.frame.proofs.Bodies.{frame-stops, prefix-told}
+use Rattle.frame.proofs.Laws.Bodies.{frame-stops, prefix-told}
 use borrow.Author.Needs.{needs}
 use Rattle.frame.proofs.read_frame.Statement.{statement}
 use Rattle.frame.proofs.read_frame.Tie as tie

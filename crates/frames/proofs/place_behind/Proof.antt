@@ -1,13 +1,12 @@
 -- `frames::place_behind` meets its contract: each turn passes one frame more. Assumes nothing.
-use Prim.Native.Nat.{_-_, _≤_}
+use Prim.Native.Nat.{_-_, _≤_, ℕ, _+_}
 use borrow.Author.Needs.{needs}
 use denote.Ref.{now}
 use mathlib.Core.Path.{_≡_, refl, sym, ap, ap₂, _∙_}
 use native.Mathlib.Omega.{arith}
-use Prim.Native.Nat.{ℕ, _+_}
 use lib.ListN.{length, drop}
 use Rattle.frames.specs.Places.{placeFrom, sizeAt}
-use Rattle.frames.proofs.PlaceLaws.{place-more, place-inside, place-none}
+use Rattle.frames.proofs.Laws.Places.{place-more, place-inside, place-none}
 use Rattle.frames.proofs.place_behind.Statement.{statement}
 use Rattle.frames.proofs.place_behind.Tie as tie
 

@@ -5,9 +5,9 @@ use native.Mathlib.Omega.{arith}
 use denote.Ref.{now}
 use lib.ListN.{length, drop, length-drop}
 use Rattle.prefix.specs.Prefix.{prefixOf}
-use Rattle.recording.specs.Turns.{lent}
+use Rattle.recording.proofs.Laws.Turns.{lent}
 use Rattle.frames.specs.Places.{saidBytes}
-use Rattle.frames.proofs.PlaceLaws.{size-none, size-short, size-said}
+use Rattle.frames.proofs.Laws.Places.{size-none, size-short, size-said}
 use Rattle.frames.proofs.size_at.Statement.{statement}
 use Rattle.frames.proofs.size_at.Tie as tie
 

@@ -2,8 +2,8 @@
 use mathlib.Core.Path.{ap, _∙_}
 use denote.Ref.{now}
 use Rattle.frame.specs.declared.Record.{Record}
-use Rattle.writer.specs.Choice.{choiceOf}
-use Rattle.g719.specs.Flags.{choiceOut}
+use Rattle.choice.specs.Choice.{choiceOf}
+use Rattle.boundary.specs.Flags.{choiceOut}
 use borrow.Author.Needs.{needs}
 use Rattle.g719.proofs.g719_choose_flag_c.Statement.{statement}
 use Rattle.g719.proofs.g719_choose_flag_c.Tie as tie

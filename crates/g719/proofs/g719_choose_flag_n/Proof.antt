@@ -3,7 +3,7 @@ use mathlib.Core.Path.{ap, _∙_}
 use mathlib.Core.Bool.{Bool}
 use denote.Ref.{now}
 use Rattle.norms.specs.Answers.{choiceOf}
-use Rattle.g719.specs.Flags.{choiceOut}
+use Rattle.boundary.specs.Flags.{choiceOut}
 use borrow.Author.Needs.{needs}
 use Rattle.g719.proofs.g719_choose_flag_n.Statement.{statement}
 use Rattle.g719.proofs.g719_choose_flag_n.Tie as tie

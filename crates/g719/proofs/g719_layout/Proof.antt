@@ -2,7 +2,7 @@
 use mathlib.Core.Path.{ap, _∙_}
 use denote.Ref.{now}
 use Rattle.frame.specs.declared.Record.{Record}
-use Rattle.writer.specs.Parts.{layoutOf}
+use Rattle.layout.specs.Parts.{layoutOf}
 use borrow.Author.Needs.{needs}
 use Rattle.g719.proofs.g719_layout.Statement.{statement}
 use Rattle.g719.proofs.g719_layout.Tie as tie

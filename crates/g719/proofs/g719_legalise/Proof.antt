@@ -2,7 +2,7 @@
 use mathlib.Core.Path.{ap, _∙_}
 use mathlib.Core.Bool.{Bool}
 use denote.Ref.{now}
-use Rattle.norms.specs.Answers.{legalised}
+use Rattle.legal.specs.Answers.{legalised}
 use borrow.Author.Needs.{needs}
 use Rattle.g719.proofs.g719_legalise.Statement.{statement}
 use Rattle.g719.proofs.g719_legalise.Tie as tie

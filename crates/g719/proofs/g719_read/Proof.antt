@@ -1,6 +1,6 @@
 -- `g719::g719_read` meets its contract: the reading with its flags as numbers. Assumes nothing.
 use mathlib.Core.Path.{ap, _∙_}
-use Rattle.g719.specs.Flags.{readingOut}
+use Rattle.boundary.specs.Flags.{readingOut}
 use borrow.Author.Needs.{needs}
 use Rattle.g719.proofs.g719_read.Statement.{statement}
 use Rattle.g719.proofs.g719_read.Tie as tie

@@ -1,6 +1,6 @@
 -- `g719::g719_read_block` meets its contract: the readings with their flags as numbers. Assumes nothing.
 use mathlib.Core.Path.{ap, _∙_}
-use Rattle.g719.specs.Flags.{blockOut}
+use Rattle.boundary.specs.Flags.{blockOut}
 use borrow.Author.Needs.{needs}
 use Rattle.g719.proofs.g719_read_block.Statement.{statement}
 use Rattle.g719.proofs.g719_read_block.Tie as tie

@@ -4,7 +4,7 @@ use denote.Ref.{now}
 use lib.ListN.{length}
 use Rattle.frame.specs.declared.Record.{Record}
 use Rattle.writer.specs.Writes.{writeReply, writingOf, outAfter}
-use Rattle.g719.specs.Flags.{recordIn}
+use Rattle.boundary.specs.Flags.{recordIn}
 use borrow.Author.Needs.{needs}
 use Rattle.g719.proofs.g719_write.Statement.{statement}
 use Rattle.g719.proofs.g719_write.Tie as tie

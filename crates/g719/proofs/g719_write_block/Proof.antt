@@ -2,8 +2,8 @@
 use mathlib.Core.Path.{ap, _∙_}
 use denote.Ref.{now}
 use lib.ListN.{length}
-use Rattle.blocks.specs.Writing.{blockReply, blockAnswer, outAfter}
-use Rattle.blocks.specs.declared.writing.Records.{Records}
+use Rattle.block_writer.specs.Writing.{blockReply, blockAnswer, outAfter}
+use Rattle.block_writer.specs.declared.Records.{Records}
 use borrow.Author.Needs.{needs}
 use Rattle.g719.proofs.g719_write_block.Statement.{statement}
 use Rattle.g719.proofs.g719_write_block.Tie as tie

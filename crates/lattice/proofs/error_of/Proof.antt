@@ -4,9 +4,9 @@ use mathlib.Core.Path.{_≡_, ap}
 use Prim.Native.Nat.{ℕ, _*_}
 use native.Mathlib.Omega.{arith}
 use borrow.Author.Needs.{needs}
-use Rattle.ground.specs.Whole.{is-same}
+use Rattle.ground.proofs.Laws.Whole.{is-same}
 use Rattle.lattice.specs.Lattice.{rounded}
-use Rattle.lattice.specs.Laws.{near, error-is}
+use Rattle.lattice.proofs.Laws.Lattice.{near, error-is}
 use Rattle.lattice.proofs.error_of.Statement.{statement}
 use Rattle.lattice.proofs.error_of.Tie as tie
 

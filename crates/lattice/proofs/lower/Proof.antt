@@ -8,7 +8,8 @@ use lib.IntN.{pos, _-ℤ_}
 use mir.Syntax.{w16, w32}
 use mir.Val.{SFits, toZ}
 use mir.Facts.{toZ-ofZ, sfits-widen}
-use Rattle.ground.specs.Whole.{Is, is-pos, is-sub, is-same, is-mag}
+use Rattle.ground.specs.Whole.{Is}
+use Rattle.ground.proofs.Laws.Whole.{is-pos, is-sub, is-same, is-mag}
 use Rattle.lattice.proofs.lower.Statement.{statement}
 use Rattle.lattice.proofs.lower.Tie as tie
 

@@ -9,10 +9,11 @@ use lib.ListN.{length, getD, length-set}
 use lib.Pow.{pow-pos}
 use mir.Facts.{toZ-ofZ}
 use mir.Syntax.{w16}
-use Rattle.ground.specs.Fills.{fill, filled}
-use Rattle.ground.specs.Whole.{is-unique}
+use Rattle.ground.proofs.Laws.Fills.{fill}
+use Rattle.ground.specs.Fills.{filled}
+use Rattle.ground.proofs.Laws.Whole.{is-unique}
 use Rattle.lattice.specs.Lattice.{point, coordinate}
-use Rattle.lattice.proofs.Raised.{changed-place, coordinate-of}
+use Rattle.lattice.proofs.Laws.Raised.{changed-place, coordinate-of}
 use Rattle.lattice.proofs.point_list.Statement.{statement}
 use Rattle.lattice.proofs.point_list.Tie as tie
 

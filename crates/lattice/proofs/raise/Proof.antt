@@ -7,7 +7,7 @@ use lib.IntN.{ℤ, pos, natAbs, _+ℤ_}
 use mir.Syntax.{w16, w32}
 use mir.Val.{SFits, toZ, ofZ}
 use mir.Facts.{toZ-ofZ, sfits-widen}
-use Rattle.ground.specs.Whole.{raised, raised-pos, raised-small}
+use Rattle.ground.proofs.Laws.Whole.{raised, raised-pos, raised-small}
 use Rattle.lattice.proofs.raise.Statement.{statement}
 use Rattle.lattice.proofs.raise.Tie as tie
 

@@ -4,7 +4,7 @@ use native.Mathlib.Omega.{arith}
 use native.Mathlib.Nat.{div-eq-of-lt-le, div-le-self}
 use Prim.Native.Nat.{_+_, _-_, _/_}
 use borrow.Author.Needs.{needs}
-use Rattle.lattice.specs.Laws.{near}
+use Rattle.lattice.proofs.Laws.Lattice.{near}
 use Rattle.lattice.proofs.round_of.Statement.{statement}
 use Rattle.lattice.proofs.round_of.Tie as tie
 

@@ -6,8 +6,8 @@ use native.Mathlib.Omega.{arith}
 use borrow.Author.Needs.{needs}
 use Rattle.lattice.specs.Lattice.{x, rounded, roundedSum, sumTo}
 use Rattle.lattice.specs.Inner.{Error, Errors}
-use Rattle.lattice.specs.Laws.{sum-more}
-use Rattle.lattice.proofs.Raised.{errors-more}
+use Rattle.lattice.proofs.Laws.Lattice.{sum-more}
+use Rattle.lattice.proofs.Laws.Raised.{errors-more}
 use Rattle.lattice.proofs.rounding.Statement.{statement}
 use Rattle.lattice.proofs.rounding.Tie as tie
 

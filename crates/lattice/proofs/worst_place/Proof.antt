@@ -8,7 +8,7 @@ use borrow.Author.Needs.{needs}
 use lib.ListN.{getD}
 use Rattle.lattice.specs.Lattice.{largest}
 use Rattle.lattice.specs.Inner.{away}
-use Rattle.lattice.specs.Laws.{largest-more, largest-same, largest-lt}
+use Rattle.lattice.proofs.Laws.Lattice.{largest-more, largest-same, largest-lt}
 use Rattle.lattice.proofs.worst_place.Statement.{statement}
 use Rattle.lattice.proofs.worst_place.Tie as tie
 

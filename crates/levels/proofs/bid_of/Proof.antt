@@ -4,7 +4,7 @@ use borrow.Author.Needs.{needs}
 use mathlib.Core.Path.{_∙_, sym}
 use native.Mathlib.Omega.{arith}
 use Rattle.contest.specs.Raised.{key}
-use Rattle.levels.proofs.Flat.{bid-nine, bid-short, bid-yes}
+use Rattle.levels.proofs.Laws.Flat.{bid-nine, bid-short, bid-yes}
 use Rattle.levels.proofs.bid_of.Statement.{statement}
 use Rattle.levels.proofs.bid_of.Tie as tie
 

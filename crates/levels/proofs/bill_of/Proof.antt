@@ -6,9 +6,9 @@ use mathlib.Core.Path.{_≡_, sym}
 use native.Mathlib.Omega.{arith}
 use Rattle.contest.specs.Raised.{at}
 use Rattle.ground.specs.Sums.{nth}
-use Rattle.levels.proofs.Flat.{bill-none, bill-turn, part-le, size-at}
-use Rattle.levels.proofs.Whole.{lengths-range}
-use Rattle.levels.specs.Levels.{bill}
+use Rattle.levels.proofs.Laws.Flat.{bill-none, bill-turn, part-le, size-at}
+use Rattle.levels.proofs.Laws.Whole.{lengths-range}
+use Rattle.levels.specs.Inner.{bill}
 use Rattle.levels.proofs.bill_of.Statement.{statement}
 use Rattle.levels.proofs.bill_of.Tie as tie
 

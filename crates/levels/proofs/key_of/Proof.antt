@@ -2,7 +2,7 @@
 -- Assumes nothing.
 use borrow.Author.Needs.{needs}
 use mathlib.Core.Path.{_∙_, sym}
-use Rattle.levels.specs.Levels.{keyOf}
+use Rattle.levels.specs.Inner.{keyOf}
 use Rattle.levels.proofs.key_of.Statement.{statement}
 use Rattle.levels.proofs.key_of.Tie as tie
 

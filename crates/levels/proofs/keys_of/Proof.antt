@@ -5,9 +5,10 @@ use borrow.Author.Needs.{needs}
 use lib.ListN.{getD, length, length-set}
 use mathlib.Core.Path.{_≡_, refl}
 use native.Mathlib.Omega.{arith}
-use Rattle.ground.specs.Fills.{fill, filled}
+use Rattle.ground.proofs.Laws.Fills.{fill}
+use Rattle.ground.specs.Fills.{filled}
 use Rattle.ground.specs.Sums.{nth}
-use Rattle.levels.specs.Levels.{keyOf, keysOf}
+use Rattle.levels.specs.Inner.{keyOf, keysOf}
 use Rattle.levels.proofs.keys_of.Statement.{statement}
 use Rattle.levels.proofs.keys_of.Tie as tie
 

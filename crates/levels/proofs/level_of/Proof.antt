@@ -4,8 +4,8 @@ use Prim.Native.Nat.{_≤_}
 use borrow.Author.Needs.{needs}
 use mathlib.Core.Logic.{⊎-elim}
 use native.Mathlib.Omega.{arith}
-use Rattle.levels.proofs.Flat.{bill-top}
-use Rattle.levels.specs.Levels.{bill}
+use Rattle.levels.proofs.Laws.Flat.{bill-top}
+use Rattle.levels.specs.Inner.{bill}
 use Rattle.levels.proofs.level_of.Statement.{statement}
 use Rattle.levels.proofs.level_of.Tie as tie
 

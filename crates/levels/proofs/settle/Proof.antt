@@ -4,7 +4,7 @@ use borrow.Author.Needs.{needs}
 use lib.ListN.{length}
 use mathlib.Core.Path.{_∙_, ap}
 use Rattle.ground.specs.Fills.{length-from}
-use Rattle.levels.proofs.Whole.{keys-keyed, keys-low, reached}
+use Rattle.levels.proofs.Laws.Whole.{keys-keyed, keys-low, reached}
 use Rattle.levels.proofs.settle.Statement.{statement}
 use Rattle.levels.proofs.settle.Tie as tie
 

@@ -5,8 +5,8 @@ use borrow.Author.Needs.{needs}
 use mathlib.Core.Path.{_≡_, sym}
 use native.Mathlib.Omega.{arith}
 use Rattle.contest.specs.Raised.{at}
-use Rattle.levels.proofs.Flat.{bid-at, highest-more, highest-none, size-at}
-use Rattle.levels.specs.Levels.{bidAt, highest}
+use Rattle.levels.proofs.Laws.Flat.{bid-at, highest-more, highest-none, size-at}
+use Rattle.levels.specs.Inner.{bidAt, highest}
 use Rattle.levels.proofs.top_bid.Statement.{statement}
 use Rattle.levels.proofs.top_bid.Tie as tie
 

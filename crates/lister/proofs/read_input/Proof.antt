@@ -4,7 +4,7 @@ use mathlib.Core.Path.{_≡_}
 use native.Mathlib.Omega.{arith}
 use lib.ListN.{length}
 use borrow.Author.Needs.{needs}
-use Rattle.lister.proofs.Bytes.{bytes-within}
+use Rattle.lister.proofs.Laws.Bytes.{bytes-within}
 use Rattle.lister.proofs.read_input.Statement.{statement}
 use Rattle.lister.proofs.read_input.Tie as tie
 

@@ -5,7 +5,7 @@ use lib.IntN.{ℤ, pos, negsuc}
 use lib.ListN.{length}
 use native.Mathlib.Omega.{arith}
 use borrow.Author.Needs.{needs}
-use Rattle.lister.specs.Reading.{told, Within}
+use Rattle.lister.specs.Inner.{told, Within}
 use Rattle.lister.proofs.read_some.Statement.{statement}
 use Rattle.lister.proofs.read_some.Tie as tie
 

@@ -9,7 +9,7 @@ use mir.Facts.{toZ-ofZ}
 use borrow.Author.Needs.{needs}
 use borrow.Author.Tests.{ltb-true}
 use Rattle.io.specs.Counts.{clamped}
-use Rattle.lister.specs.Reading.{told}
+use Rattle.lister.specs.Inner.{told}
 use Rattle.lister.specs.declared.Input.the-variants.{Bytes, Failed}
 use Rattle.lister.proofs.told.Statement.{statement}
 use Rattle.lister.proofs.told.Tie as tie

@@ -1,7 +1,7 @@
 -- `listing::list` meets its contract: the lines, the total line behind them. Assumes nothing.
 use native.Mathlib.Omega.{arith}
 use denote.Ref.{now}
-use Rattle.listing.specs.Whole.{no-room, long-laid, total-room, total-laid}
+use Rattle.listing.proofs.Laws.Whole.{no-room, long-laid, total-room, total-laid}
 use borrow.Author.Needs.{needs}
 use Rattle.listing.proofs.list.Statement.{statement}
 use Rattle.listing.proofs.list.Tie as tie

@@ -4,9 +4,12 @@ use Prim.Native.Nat.{ℕ}
 use native.Mathlib.Omega.{arith}
 use denote.Ref.{now}
 use lib.ListN.{length}
-use Rattle.listing.specs.Text.{decimal, frameLine}
-use Rattle.ground.specs.Laying.{Laid, laid-long, then}
-use Rattle.listing.specs.Numbers.{length-digits, length-line}
+use Rattle.decimals.specs.Decimals.{decimal}
+use Rattle.listing.specs.Text.{frameLine}
+use Rattle.ground.specs.Laying.{Laid}
+use Rattle.ground.proofs.Laws.Laying.{laid-long, then}
+use Rattle.decimals.proofs.Laws.Numbers.{length-digits}
+use Rattle.listing.proofs.Laws.Numbers.{length-line}
 use borrow.Author.Needs.{needs}
 use Rattle.listing.proofs.put_line.Statement.{statement}
 use Rattle.listing.proofs.put_line.Tie as tie

@@ -5,8 +5,9 @@ use Prim.Native.Nat.{_-_}
 use native.Mathlib.Omega.{arith}
 use denote.Ref.{now}
 use lib.ListN.{length}
-use Rattle.ground.specs.Laying.{laid-long}
-use Rattle.listing.specs.Turns.{Listed, Complete, listed-none, listed-full, listed-end, listed-small, listed-room, listed-stop, listed-more}
+use Rattle.ground.proofs.Laws.Laying.{laid-long}
+use Rattle.listing.proofs.Laws.Turns.{Listed, listed-none, listed-full, listed-end, listed-small, listed-room, listed-stop, listed-more}
+use Rattle.listing.specs.Inner.{Complete}
 use Rattle.listing.proofs.put_lines.Statement.{statement}
 use Rattle.listing.proofs.put_lines.Tie as tie
 

@@ -1,7 +1,7 @@
 -- `norms::choose_flag_n` meets its contract: under 220 with the first index is under 215 without. Assumes nothing.
 use mathlib.Core.Path.{_≡_}
 use lib.ListN.{length}
-use Rattle.norms.specs.Answers.{choice-no, choice-yes}
+use Rattle.norms.proofs.Laws.Answers.{choice-no, choice-yes}
 use borrow.Author.Needs.{needs}
 use Rattle.norms.proofs.choose_flag_n.Statement.{statement}
 use Rattle.norms.proofs.choose_flag_n.Tie as tie

@@ -4,8 +4,8 @@ use mathlib.Core.Path.{_≡_, refl, sym, ap}
 use native.Mathlib.Omega.{arith}
 use Prim.Native.Nat.{ℕ, _+_, _-_}
 use lib.ListN.{length}
-use Rattle.norms.specs.Answers.{indicesOf}
-use Rattle.norms.specs.Loops.{Stepping, step-start, step-turn, step-low, step-high, step-end}
+use Rattle.norms.specs.Inner.{indicesOf}
+use Rattle.norms.proofs.Laws.Loops.{Stepping, step-start, step-turn, step-low, step-high, step-end}
 use Rattle.norms.proofs.indices_of.Statement.{statement}
 use Rattle.norms.proofs.indices_of.Tie as tie
 

@@ -1,6 +1,6 @@
 -- `norms::norm_kinds` meets its contract. Assumes nothing.
 use borrow.Author.Tests.{not-true, not-false}
-use Rattle.norms.specs.Part.{kinds-plain, kinds-words}
+use Rattle.norms.proofs.Laws.Part.{kinds-plain, kinds-words}
 use borrow.Author.Needs.{needs}
 use Rattle.norms.proofs.norm_kinds.Statement.{statement}
 use Rattle.norms.proofs.norm_kinds.Tie as tie

@@ -3,7 +3,7 @@ use borrow.Author.Tests.{not-true, not-false}
 use mathlib.Core.Path.{sym, ap, _∙_}
 use mathlib.Core.Bool.{true, false}
 use Rattle.norms.specs.Steps.{stepsClose}
-use Rattle.norms.specs.Answers.{reply-range, reply-first, reply-steps}
+use Rattle.norms.proofs.Laws.Answers.{reply-range, reply-first, reply-steps}
 use borrow.Author.Needs.{needs}
 use Rattle.norms.proofs.norm_reply.Statement.{statement}
 use Rattle.norms.proofs.norm_reply.Tie as tie

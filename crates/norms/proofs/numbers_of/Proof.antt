@@ -6,8 +6,9 @@ use Prim.Native.Nat.{ℕ, _+_, _-_, _≤_, _<_}
 use lib.ListN.{length, getD, length-set}
 use mathlib.Core.List.{_∷_}
 use native.Mathlib.Numerals.{add-one}
-use Rattle.ground.specs.Fills.{fill, filled}
-use Rattle.norms.specs.Steps.{numberAt, numbers-table}
+use Rattle.ground.proofs.Laws.Fills.{fill}
+use Rattle.ground.specs.Fills.{filled}
+use Rattle.norms.proofs.Laws.Steps.{numberAt, numbers-table}
 use Rattle.norms.proofs.numbers_of.Statement.{statement}
 use Rattle.norms.proofs.numbers_of.Tie as tie
 

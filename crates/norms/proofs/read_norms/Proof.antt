@@ -2,7 +2,7 @@
 use borrow.Author.Tests.{not-true, not-false}
 use mathlib.Core.Path.{refl}
 use denote.Ref.{now}
-use Rattle.norms.specs.Reads.{read-refused, read-outside, read-sound}
+use Rattle.norms.proofs.Laws.Reads.{read-refused, read-outside, read-sound}
 use borrow.Author.Needs.{needs}
 use Rattle.norms.proofs.read_norms.Statement.{statement}
 use Rattle.norms.proofs.read_norms.Tie as tie

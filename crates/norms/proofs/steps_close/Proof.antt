@@ -3,7 +3,7 @@ use borrow.Author.Needs.{needs}
 use mathlib.Core.Path.{_≡_, sym}
 use Prim.Native.Nat.{_-_}
 use lib.ListN.{length}
-use Rattle.norms.specs.Loops.{Closing, close-start, close-turn, close-down, close-up, close-end}
+use Rattle.norms.proofs.Laws.Loops.{Closing, close-start, close-turn, close-down, close-up, close-end}
 use Rattle.norms.proofs.steps_close.Statement.{statement}
 use Rattle.norms.proofs.steps_close.Tie as tie
 

@@ -2,7 +2,7 @@
 use mathlib.Core.Path.{sym, _∙_}
 use native.Mathlib.Omega.{arith}
 use denote.Ref.{now}
-use Rattle.prefix.specs.Prefix.{read-none, read-some, read-said, byte-marked, said-none, said-low, said-high, said-data}
+use Rattle.prefix.proofs.Laws.Prefix.{read-none, read-some, read-said, byte-marked, said-none, said-low, said-high, said-data}
 use borrow.Author.Needs.{needs}
 use Rattle.prefix.proofs.read_prefix.Statement.{statement}
 use Rattle.prefix.proofs.read_prefix.Tie as tie

@@ -1,8 +1,8 @@
 -- `prefix::write_prefix` meets its contract: F and R are 0, and L is the mode's. Assumes nothing.
 use mathlib.Core.Path.{sym, ap, _∙_}
 use native.Mathlib.Omega.{arith}
-use Rattle.prefix.specs.Sizes.{field-most}
-use Rattle.prefix.specs.Prefix.{byteNamed, byte-named}
+use Rattle.prefix.proofs.Laws.Sizes.{field-most}
+use Rattle.prefix.proofs.Laws.Prefix.{byteNamed, byte-named}
 use borrow.Author.Needs.{needs}
 use Rattle.prefix.proofs.write_prefix.Statement.{statement}
 use Rattle.prefix.proofs.write_prefix.Tie as tie

@@ -1,7 +1,7 @@
 -- `recording::check` meets its contract: with one channel a block is a frame. Assumes nothing.
 use mathlib.Core.Path.{_∙_}
 use native.Mathlib.Omega.{arith}
-use Rattle.recording.proofs.BlockLaws.{one-channel}
+use Rattle.recording.proofs.Laws.Blocks.{one-channel}
 use Rattle.recording.proofs.check.Statement.{statement}
 use Rattle.recording.proofs.check.Tie as tie
 

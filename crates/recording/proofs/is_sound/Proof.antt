@@ -1,7 +1,7 @@
 -- `recording::is_sound` meets its contract: 14, else whether it is 0. Assumes nothing.
 use borrow.Author.Tests.{eq-eqb, ne-eqb}
 use native.Mathlib.Omega.{arith}
-use Rattle.recording.specs.Walk.{isSound}
+use Rattle.recording.specs.Inner.{isSound}
 use Rattle.recording.proofs.is_sound.Statement.{statement}
 use Rattle.recording.proofs.is_sound.Tie as tie
 

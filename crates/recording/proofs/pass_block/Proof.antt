@@ -1,18 +1,17 @@
 -- `recording::pass_block` meets its contract: each turn passes one frame more of the block. Assumes nothing.
-use Prim.Native.Nat.{_-_}
+use Prim.Native.Nat.{_-_, ℕ}
 use borrow.Author.Needs.{needs}
 use borrow.Author.Tests.{not-true, not-false}
 use denote.Ref.{now}
 use lib.ListN.{drop}
 use mathlib.Core.Path.{_≡_, _∙_, refl, sym, ap}
 use native.Mathlib.Omega.{arith}
-use Prim.Native.Nat.{ℕ}
 use Rattle.frame.specs.Answers.{readingOf}
 use Rattle.recording.specs.Walk.{storedAt}
-use Rattle.recording.specs.Blocks.{replyBehind}
-use Rattle.recording.specs.Turns.{told-record, reading-stops, reading-passes}
+use Rattle.recording.specs.Inner.{replyBehind}
+use Rattle.recording.proofs.Laws.Turns.{told-record, reading-stops, reading-passes}
 use Rattle.recording.specs.declared.answer.Passing.{Passing}
-use Rattle.recording.proofs.Begun.{Begun, begun-none, begun-stop, begun-next, begun-end}
+use Rattle.recording.proofs.Laws.Begun.{Begun, begun-none, begun-stop, begun-next, begun-end}
 use Rattle.recording.proofs.pass_block.Statement.{statement}
 use Rattle.recording.proofs.pass_block.Tie as tie
 

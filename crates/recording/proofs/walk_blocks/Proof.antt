@@ -3,10 +3,10 @@ use Prim.Native.Nat.{_-_}
 use borrow.Author.Needs.{needs}
 use mathlib.Core.Path.{_≡_, _∙_, refl}
 use native.Mathlib.Omega.{arith}
-use Rattle.recording.specs.Walk.{made-same}
+use Rattle.recording.proofs.Laws.Walk.{made-same}
 use Rattle.recording.specs.Blocks.{blockStep}
-use Rattle.recording.specs.Turns.{Passed, passed-none, passed-full, unit-stops, unit-passes, passed-end}
-use Rattle.recording.proofs.BlockLaws.{block-lawful}
+use Rattle.recording.proofs.Laws.Turns.{Passed, passed-none, passed-full, unit-stops, unit-passes, passed-end}
+use Rattle.recording.proofs.Laws.Blocks.{block-lawful}
 use Rattle.recording.proofs.walk_blocks.Statement.{statement}
 use Rattle.recording.proofs.walk_blocks.Tie as tie
 

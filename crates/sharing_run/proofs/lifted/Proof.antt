@@ -1,14 +1,13 @@
 -- v + 32768 is a natural below 65536, and each bit pattern is read back.
 -- Assumes nothing.
 use Prim.Native.Nat.{_<_, ℕ}
-use lib.IntN.{natAbs, pos, ℤ}
+use lib.IntN.{natAbs, pos, ℤ, _+ℤ_}
 use mathlib.Core.Path.{_≡_, subst, sym}
 use mir.Facts.{sfits-widen, toZ-ofZ}
 use mir.Syntax.{w16, w32}
 use mir.Val.{SFits, ofZ, toZ}
 use native.Mathlib.Omega.{arith}
-use Rattle.ground.specs.Whole.{raised, raised-pos, raised-small}
-use lib.IntN.{_+ℤ_}
+use Rattle.ground.proofs.Laws.Whole.{raised, raised-pos, raised-small}
 use Rattle.sharing_run.proofs.lifted.Statement.{statement}
 use Rattle.sharing_run.proofs.lifted.Tie as tie
 

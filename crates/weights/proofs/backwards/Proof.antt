@@ -5,9 +5,10 @@ use borrow.Author.Needs.{needs}
 use lib.ListN.{getD, length, length-set}
 use mathlib.Core.Path.{_≡_, refl}
 use native.Mathlib.Omega.{arith}
-use Rattle.ground.specs.Fills.{fill-down, filled}
-use Rattle.weights.proofs.Laws.{down-next}
-use Rattle.weights.specs.Raised.{down}
+use Rattle.ground.proofs.Laws.Fills.{fill-down}
+use Rattle.ground.specs.Fills.{filled}
+use Rattle.weights.proofs.Laws.Stages.{down-next}
+use Rattle.weights.specs.Inner.{down}
 use Rattle.weights.proofs.backwards.Statement.{statement}
 use Rattle.weights.proofs.backwards.Tie as tie
 

@@ -5,10 +5,11 @@ use borrow.Author.Needs.{needs}
 use lib.ListN.{getD, length, length-set}
 use mathlib.Core.Path.{_≡_, refl}
 use native.Mathlib.Omega.{arith}
-use Rattle.ground.specs.Fills.{fill, filled}
-use Rattle.weights.proofs.Printed.{floor-is, lift-is}
-use Rattle.weights.proofs.Laws.{excess-made}
-use Rattle.weights.specs.Raised.{excess}
+use Rattle.ground.proofs.Laws.Fills.{fill}
+use Rattle.ground.specs.Fills.{filled}
+use Rattle.weights.proofs.Laws.Printed.{floor-is, lift-is}
+use Rattle.weights.proofs.Laws.Stages.{excess-made}
+use Rattle.weights.specs.Inner.{excess}
 use Rattle.weights.proofs.excesses.Statement.{statement}
 use Rattle.weights.proofs.excesses.Tie as tie
 

@@ -5,9 +5,10 @@ use borrow.Author.Needs.{needs}
 use lib.ListN.{getD, length, length-set}
 use mathlib.Core.Path.{_≡_, refl}
 use native.Mathlib.Omega.{arith}
-use Rattle.ground.specs.Fills.{fill, filled}
-use Rattle.weights.proofs.Laws.{up-next}
-use Rattle.weights.specs.Raised.{up}
+use Rattle.ground.proofs.Laws.Fills.{fill}
+use Rattle.ground.specs.Fills.{filled}
+use Rattle.weights.proofs.Laws.Stages.{up-next}
+use Rattle.weights.specs.Inner.{up}
 use Rattle.weights.proofs.forwards.Statement.{statement}
 use Rattle.weights.proofs.forwards.Tie as tie
 

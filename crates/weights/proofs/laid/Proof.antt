@@ -5,9 +5,10 @@ use borrow.Author.Needs.{needs}
 use lib.ListN.{getD, length, length-set}
 use mathlib.Core.Path.{_≡_, ap, refl}
 use native.Mathlib.Omega.{arith}
-use Rattle.ground.specs.Fills.{bound, everywhere, fill, filled}
+use Rattle.ground.proofs.Laws.Fills.{bound, everywhere, fill}
+use Rattle.ground.specs.Fills.{filled}
 use Rattle.ground.specs.Sums.{nth}
-use Rattle.weights.proofs.Printed.{row-in, row-is}
+use Rattle.weights.proofs.Laws.Printed.{row-in, row-is}
 use Rattle.weights.specs.Table17.{rowOf}
 use Rattle.weights.proofs.laid.Statement.{statement}
 use Rattle.weights.proofs.laid.Tie as tie

@@ -4,8 +4,8 @@ use Prim.Native.Nat.{_-_, _≤_}
 use borrow.Author.Needs.{needs}
 use mathlib.Core.Path.{_≡_, refl}
 use native.Mathlib.Omega.{arith}
-use Rattle.weights.proofs.Laws.{least-next}
-use Rattle.weights.specs.Raised.{least}
+use Rattle.weights.proofs.Laws.Stages.{least-next}
+use Rattle.weights.specs.Inner.{least}
 use Rattle.weights.proofs.least_of.Statement.{statement}
 use Rattle.weights.proofs.least_of.Tie as tie
 

@@ -2,14 +2,14 @@
 -- Assumes nothing.
 use Prim.Native.Nat.{_≤_, ℕ}
 use borrow.Author.Needs.{needs}
-use lib.IntN.{pos}
+use lib.IntN.{pos, _-ℤ_}
 use mathlib.Core.Path.{_≡_}
 use mir.Facts.{sfits-widen, toZ-ofZ}
 use mir.Syntax.{w16, w32}
 use mir.Val.{SFits, toZ}
 use native.Mathlib.Omega.{arith}
-use Rattle.ground.specs.Whole.{Is, is-mag, is-pos, is-same, is-sub}
-use lib.IntN.{_-ℤ_}
+use Rattle.ground.specs.Whole.{Is}
+use Rattle.ground.proofs.Laws.Whole.{is-mag, is-pos, is-same, is-sub}
 use Rattle.weights.proofs.lowered.Statement.{statement}
 use Rattle.weights.proofs.lowered.Tie as tie
 

@@ -4,8 +4,8 @@ use Prim.Native.Nat.{_-_, _≤_}
 use borrow.Author.Needs.{needs}
 use mathlib.Core.Path.{_≡_, refl}
 use native.Mathlib.Omega.{arith}
-use Rattle.weights.proofs.Laws.{most-next}
-use Rattle.weights.specs.Raised.{most}
+use Rattle.weights.proofs.Laws.Stages.{most-next}
+use Rattle.weights.specs.Inner.{most}
 use Rattle.weights.proofs.most_of.Statement.{statement}
 use Rattle.weights.proofs.most_of.Tie as tie
 

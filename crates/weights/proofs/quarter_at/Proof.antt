@@ -2,7 +2,7 @@
 -- Assumes nothing.
 use borrow.Author.Needs.{needs}
 use native.Mathlib.Omega.{arith}
-use Rattle.weights.specs.Raised.{loud, quarter}
+use Rattle.weights.specs.Inner.{loud, quarter}
 use Rattle.weights.proofs.quarter_at.Statement.{statement}
 use Rattle.weights.proofs.quarter_at.Tie as tie
 

@@ -5,8 +5,9 @@ use borrow.Author.Needs.{needs}
 use lib.ListN.{getD, length, length-set}
 use mathlib.Core.Path.{_≡_, refl}
 use native.Mathlib.Omega.{arith}
-use Rattle.ground.specs.Fills.{bound, everywhere, fill, filled}
-use Rattle.weights.specs.Raised.{quarter}
+use Rattle.ground.proofs.Laws.Fills.{bound, everywhere, fill}
+use Rattle.ground.specs.Fills.{filled}
+use Rattle.weights.specs.Inner.{quarter}
 use Rattle.weights.proofs.quarters.Statement.{statement}
 use Rattle.weights.proofs.quarters.Tie as tie
 

@@ -2,7 +2,7 @@
 -- Assumes nothing.
 use borrow.Author.Needs.{needs}
 use mathlib.Core.Path.{refl}
-use Rattle.weights.specs.Raised.{quarters, raisedRows}
+use Rattle.weights.specs.Inner.{quarters, raisedRows}
 use Rattle.weights.proofs.row_weights.Statement.{statement}
 use Rattle.weights.proofs.row_weights.Tie as tie
 

@@ -5,10 +5,11 @@ use borrow.Author.Needs.{needs}
 use lib.ListN.{getD, length, length-set}
 use mathlib.Core.Path.{_≡_, refl}
 use native.Mathlib.Omega.{arith}
-use Rattle.ground.specs.Fills.{fill, filled}
-use Rattle.weights.proofs.Printed.{first-is, first-room, height-is, lift-is, lift-le, part-all, part-is}
-use Rattle.weights.proofs.Laws.{part-le, row-made}
-use Rattle.weights.specs.Raised.{row}
+use Rattle.ground.proofs.Laws.Fills.{fill}
+use Rattle.ground.specs.Fills.{filled}
+use Rattle.weights.proofs.Laws.Printed.{first-is, first-room, height-is, lift-is, lift-le, part-all, part-is}
+use Rattle.weights.proofs.Laws.Stages.{part-le, row-made}
+use Rattle.weights.specs.Inner.{row}
 use Rattle.weights.proofs.rows.Statement.{statement}
 use Rattle.weights.proofs.rows.Tie as tie
 

@@ -2,7 +2,7 @@
 -- Assumes nothing.
 use borrow.Author.Needs.{needs}
 use native.Mathlib.Omega.{arith}
-use Rattle.weights.proofs.Laws.{scaled-le, scaled-other, scaled-same}
+use Rattle.weights.proofs.Laws.Stages.{scaled-le, scaled-other, scaled-same}
 use Rattle.weights.proofs.scale.Statement.{statement}
 use Rattle.weights.proofs.scale.Tie as tie
 

@@ -5,10 +5,11 @@ use borrow.Author.Needs.{needs}
 use lib.ListN.{getD, length, length-set}
 use mathlib.Core.Path.{_≡_, refl}
 use native.Mathlib.Omega.{arith}
-use Rattle.ground.specs.Fills.{bound, everywhere, fill, filled}
+use Rattle.ground.proofs.Laws.Fills.{bound, everywhere, fill}
+use Rattle.ground.specs.Fills.{filled}
 use Rattle.ground.specs.Sums.{nth}
-use Rattle.weights.proofs.Laws.{least-le, most-ge}
-use Rattle.weights.specs.Raised.{scaled}
+use Rattle.weights.proofs.Laws.Stages.{least-le, most-ge}
+use Rattle.weights.specs.Inner.{scaled}
 use Rattle.weights.proofs.scales.Statement.{statement}
 use Rattle.weights.proofs.scales.Tie as tie
 

@@ -5,8 +5,8 @@ use mathlib.Core.Path.{_∙_}
 use mir.Facts.{toZ-ofZ}
 use mir.Syntax.{w16}
 use native.Mathlib.Omega.{arith}
-use Rattle.ground.specs.Whole.{is-same, is-unique}
-use Rattle.weights.proofs.Bridge.{score-is}
+use Rattle.ground.proofs.Laws.Whole.{is-same, is-unique}
+use Rattle.weights.proofs.Laws.Bridge.{score-is}
 use Rattle.weights.proofs.score_of.Statement.{statement}
 use Rattle.weights.proofs.score_of.Tie as tie
 

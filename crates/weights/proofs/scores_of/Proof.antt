@@ -8,9 +8,10 @@ use mathlib.Core.Path.{_∙_, _≡_, refl}
 use mir.Facts.{toZ-ofZ}
 use mir.Syntax.{w16}
 use native.Mathlib.Omega.{arith}
-use Rattle.ground.specs.Fills.{fill, filled}
+use Rattle.ground.proofs.Laws.Fills.{fill}
+use Rattle.ground.specs.Fills.{filled}
 use Rattle.ground.specs.Sums.{nth}
-use Rattle.ground.specs.Indices.{range-at}
+use Rattle.ground.proofs.Laws.Indices.{range-at}
 use Rattle.weights.specs.Weights.{score}
 use Rattle.weights.proofs.scores_of.Statement.{statement}
 use Rattle.weights.proofs.scores_of.Tie as tie

@@ -5,7 +5,8 @@ use borrow.Author.Needs.{needs}
 use lib.ListN.{getD, length, length-set}
 use mathlib.Core.Path.{_≡_, refl}
 use native.Mathlib.Omega.{arith}
-use Rattle.ground.specs.Fills.{bound, everywhere, fill, filled}
+use Rattle.ground.proofs.Laws.Fills.{bound, everywhere, fill}
+use Rattle.ground.specs.Fills.{filled}
 use Rattle.weights.specs.Weights.{spread}
 use Rattle.weights.proofs.spreads.Statement.{statement}
 use Rattle.weights.proofs.spreads.Tie as tie

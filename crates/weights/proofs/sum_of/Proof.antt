@@ -4,7 +4,8 @@ use Prim.Native.Nat.{_*_, _+_, _-_, _≤_}
 use borrow.Author.Needs.{needs}
 use mathlib.Core.Path.{_≡_, sym}
 use native.Mathlib.Omega.{arith}
-use Rattle.ground.specs.Sums.{nth, sum-more, sum-nil, sumTo}
+use Rattle.ground.specs.Sums.{nth, sumTo}
+use Rattle.ground.proofs.Laws.Sums.{sum-more, sum-nil}
 use Rattle.weights.proofs.sum_of.Statement.{statement}
 use Rattle.weights.proofs.sum_of.Tie as tie
 

@@ -2,7 +2,7 @@
 -- Assumes nothing.
 use borrow.Author.Needs.{needs}
 use mathlib.Core.Path.{_∙_, sym}
-use Rattle.weights.proofs.Laws.{weighed-is, weighed-no}
+use Rattle.weights.proofs.Laws.Stages.{weighed-is, weighed-no}
 use Rattle.weights.proofs.weigh.Statement.{statement}
 use Rattle.weights.proofs.weigh.Tie as tie
 

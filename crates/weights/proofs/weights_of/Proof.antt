@@ -2,8 +2,8 @@
 -- Assumes nothing.
 use borrow.Author.Needs.{needs}
 use mathlib.Core.Path.{refl}
-use Rattle.weights.proofs.Bridge.{rows-same}
-use Rattle.ground.specs.Indices.{range-at}
+use Rattle.weights.proofs.Laws.Bridge.{rows-same}
+use Rattle.ground.proofs.Laws.Indices.{range-at}
 use Rattle.weights.specs.Weights.{weightsOf}
 use Rattle.weights.proofs.weights_of.Statement.{statement}
 use Rattle.weights.proofs.weights_of.Tie as tie

@@ -2,7 +2,7 @@
 use borrow.Author.Needs.{needs}
 use mathlib.Core.Path.{sym}
 use native.Mathlib.Omega.{arith}
-use Rattle.words.specs.Answers.{column-last}
+use Rattle.words.proofs.Laws.Answers.{column-last}
 use Rattle.words.proofs.column_of.Statement.{statement}
 use Rattle.words.proofs.column_of.Tie as tie
 

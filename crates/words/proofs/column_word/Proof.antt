@@ -6,8 +6,9 @@ use Prim.Native.Nat.{_+_, _-_, _*_, _%_, _/_}
 use lib.Dec.{T}
 use native.Mathlib.Nat.{le-refl}
 use Rattle.bits.specs.Bits.{val, view}
-use Rattle.bits.specs.Views.{view-lt, length-view}
-use Rattle.words.specs.Look.{right, begins-fine, begins-refused, begins-cut, entry-lacking, entry-word, entry-lt}
+use Rattle.bits.proofs.Laws.Views.{view-lt, length-view}
+use Rattle.words.specs.Inner.{right}
+use Rattle.words.proofs.Laws.Look.{begins-fine, begins-refused, begins-cut, entry-lacking, entry-word, entry-lt}
 use Rattle.words.specs.declared.Word.the-variants.{At}
 use borrow.Author.Needs.{needs}
 use Rattle.words.proofs.column_word.Statement.{statement}

@@ -2,8 +2,8 @@
 use native.Mathlib.Omega.{arith}
 use mathlib.Core.Path.{ap, _∙_}
 use lib.Dec.{ltb}
-use Rattle.bits.specs.Numbers.{shifted-one}
-use Rattle.words.specs.Spell.{fit-fixed, fit-column}
+use Rattle.bits.proofs.Laws.Numbers.{shifted-one}
+use Rattle.words.proofs.Laws.Spell.{fit-fixed, fit-column}
 use borrow.Author.Needs.{needs}
 use Rattle.words.proofs.has_word.Statement.{statement}
 use Rattle.words.proofs.has_word.Tie as tie

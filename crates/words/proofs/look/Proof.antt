@@ -1,11 +1,11 @@
 -- `words::look` meets its contract: the rule of the look-up at the entry that is read. Assumes nothing.
-use mathlib.Core.Path.{sym, ap, _∙_}
+use mathlib.Core.Path.{sym, ap, _∙_, subst}
 use mathlib.Core.List.{List}
 use Prim.Native.Nat.{ℕ}
 use lib.Dec.{T}
 use lib.ListN.{getD}
-use mathlib.Core.Path.{subst}
-use Rattle.words.specs.Look.{right, look-right}
+use Rattle.words.specs.Inner.{right}
+use Rattle.words.proofs.Laws.Look.{look-right}
 use borrow.Author.Needs.{needs}
 use Rattle.words.proofs.look.Statement.{statement}
 use Rattle.words.proofs.look.Tie as tie

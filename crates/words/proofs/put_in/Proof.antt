@@ -8,8 +8,8 @@ use mathlib.Core.Bool.{Bool}
 use lib.ListN.{length}
 use Rattle.bits.specs.Bits.{word, laid}
 use Rattle.bits.specs.Numbers.{length-word}
-use Rattle.bits.specs.Laid.{laid-none}
-use Rattle.words.specs.Spell.{word-none}
+use Rattle.bits.proofs.Laws.Laid.{laid-none}
+use Rattle.words.proofs.Laws.Spell.{word-none}
 use borrow.Author.Needs.{needs}
 use Rattle.words.proofs.put_in.Statement.{statement}
 use Rattle.words.proofs.put_in.Tie as tie

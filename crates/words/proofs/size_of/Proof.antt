@@ -6,7 +6,8 @@ use native.Mathlib.Omega.{arith}
 use Prim.Native.Nat.{ℕ, _+_}
 use lib.ListN.{length}
 use Rattle.words.specs.Tables.{words}
-use Rattle.words.specs.Spell.{startOf, start-next}
+use Rattle.words.specs.Inner.{startOf}
+use Rattle.words.proofs.Laws.Spell.{start-next}
 use Rattle.words.proofs.size_of.Statement.{statement}
 use Rattle.words.proofs.size_of.Tie as tie
 

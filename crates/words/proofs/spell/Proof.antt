@@ -6,7 +6,9 @@ use Prim.Native.Nat.{ℕ, _+_, _<_}
 use native.Mathlib.Omega.{arith}
 use lib.ListN.{length, getD}
 use Rattle.words.specs.Tables.{words}
-use Rattle.words.specs.Spell.{startOf, start-next, start-end, spellTable, entry}
+use Rattle.words.specs.Inner.{startOf}
+use Rattle.words.proofs.Laws.Spell.{start-next, start-end, entry}
+use Rattle.words.specs.Spell.{spellTable}
 use Rattle.words.proofs.spell.Statement.{statement}
 use Rattle.words.proofs.spell.Tie as tie
 

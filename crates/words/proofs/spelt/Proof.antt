@@ -1,6 +1,6 @@
 -- `words::spelt` meets its contract: the number itself, no bits, or the word back from its number. Assumes nothing.
 use native.Mathlib.Omega.{arith}
-use Rattle.words.specs.Spell.{spelt-fixed, spelt-none, spelt-word}
+use Rattle.words.proofs.Laws.Spell.{spelt-fixed, spelt-none, spelt-word}
 use borrow.Author.Needs.{needs}
 use Rattle.words.proofs.spelt.Statement.{statement}
 use Rattle.words.proofs.spelt.Tie as tie

@@ -9,7 +9,7 @@ use lib.ListN.{getD}
 use Rattle.ground.specs.Cases.{and-T}
 use Rattle.ground.specs.Tables.{every-at}
 use Rattle.words.specs.Tables.{words, columnOf, table16, table20}
-use Rattle.words.specs.Spell.{startOf}
+use Rattle.words.specs.Inner.{startOf}
 use Rattle.words.proofs.start_of.Statement.{statement}
 use Rattle.words.proofs.start_of.Tie as tie
 

@@ -4,8 +4,8 @@ use mathlib.Core.Path.{_∙_}
 use native.Mathlib.Omega.{arith}
 use native.Mathlib.Nat.{lt-of-lt-of-le}
 use lib.Pow.{pow-mono}
-use Rattle.bits.specs.Views.{view-lt}
-use Rattle.words.specs.Answers.{at-none, at-column, at-past, at-fixed}
+use Rattle.bits.proofs.Laws.Views.{view-lt}
+use Rattle.words.proofs.Laws.Answers.{at-none, at-column, at-past, at-fixed}
 use borrow.Author.Needs.{needs}
 use Rattle.words.proofs.word_in.Statement.{statement}
 use Rattle.words.proofs.word_in.Tie as tie

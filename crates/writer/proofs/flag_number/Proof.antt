@@ -2,7 +2,7 @@
 use mathlib.Core.Path.{ap₂, _∙_}
 use Prim.Native.Nat.{ℕ, _+_, _-_, _*_}
 use Rattle.bits.specs.Bits.{num, word}
-use Rattle.writer.specs.Bodies.{flag-word}
+use Rattle.writer.proofs.Laws.Bodies.{flag-word}
 use borrow.Author.Needs.{needs}
 use Rattle.writer.proofs.flag_number.Statement.{statement}
 use Rattle.writer.proofs.flag_number.Tie as tie

@@ -5,8 +5,9 @@ use Prim.Native.Nat.{ℕ, _-_}
 use denote.Ref.{now}
 use Rattle.ground.specs.Replies.{done, wrongTail}
 use Rattle.bits.specs.Bits.{view}
-use Rattle.writer.specs.Tests.{clear}
-use Rattle.writer.specs.Writes.{lateReply, late-refused, late-count, late-pad}
+use Rattle.tails.specs.Tails.{clear}
+use Rattle.writer.specs.Writes.{lateReply}
+use Rattle.writer.proofs.Laws.Writes.{late-refused, late-count, late-pad}
 use borrow.Author.Needs.{needs}
 use Rattle.writer.proofs.late_reply.Statement.{statement}
 use Rattle.writer.proofs.late_reply.Tie as tie
@@ -14,9 +15,9 @@ use Rattle.writer.proofs.late_reply.Tie as tie
 -- whether the padding is clear
 padding : (d : tie.After-all-clear) → let a : tie.Start = search in clear (view (now (a .args .tail)) (a .args .count) (2560 - a .args .count)) ≡ d .all-clear .result
 padding d =
-    let w : tie.After-wide = search in
+    let w : tie.After-wide16 = search in
     let a : tie.Start = search in
-    ap (λ (k : ℕ). clear (view (now (a .args .tail)) k (2560 - k))) (sym (w .wide .ensures .0)) ∙ sym (d .all-clear .ensures)
+    ap (λ (k : ℕ). clear (view (now (a .args .tail)) k (2560 - k))) (sym (w .wide16 .ensures .0)) ∙ sym (d .all-clear .ensures)
 
 -- the count is right
 padded : (b : Bool) (d : tie.After-all-clear) → d .all-clear .result ≡ b → let a : tie.Start = search in cond b done wrongTail ≡ lateReply (a .args .parts) (now (a .args .tail)) (a .args .count)

@@ -1,7 +1,7 @@
 -- `writer::room_reply` meets its contract, in 01's order. Assumes nothing.
 use mathlib.Core.Path.{sym, _∙_}
 use borrow.Author.Tests.{not-true, not-false}
-use Rattle.writer.specs.Writes.{room-mode, room-codes, room-tail, room-out, room-noise, room-enough}
+use Rattle.writer.proofs.Laws.Writes.{room-mode, room-codes, room-tail, room-out, room-noise, room-enough}
 use borrow.Author.Needs.{needs}
 use Rattle.writer.proofs.room_reply.Statement.{statement}
 use Rattle.writer.proofs.room_reply.Tie as tie

@@ -8,14 +8,16 @@ use lib.ListN.{length, take, set, length-set}
 use lib.Seq.{length-take-le}
 use Rattle.ground.specs.Replies.{done}
 use Rattle.bits.specs.Bits.{laid}
-use Rattle.bits.specs.Laid.{length-laid}
+use Rattle.bits.proofs.Laws.Laid.{length-laid}
 use Rattle.prefix.specs.Sizes.{modeBytes}
 use Rattle.prefix.specs.Prefix.{byteOf}
 use Rattle.prefix.specs.declared.Byte.the-variants as Byte
-use Rattle.writer.specs.Parts.{started, Planned, planned, budget-small, layout-planned}
-use Rattle.writer.specs.Writes.{lateReply, writeReply, writingOf, outAfter, reply-early, reply-start, reply-late}
-use Rattle.writer.specs.Bodies.{bodyBits, Passed, passed, refused-out, pass-prefix, pass-out}
-use Rattle.writer.specs.declared.Parts.{Parts}
+use Rattle.layout.proofs.Laws.Parts.{started, Planned, planned, budget-small, layout-planned}
+use Rattle.writer.specs.Writes.{lateReply, writeReply, writingOf, outAfter}
+use Rattle.writer.proofs.Laws.Writes.{reply-early, reply-start, reply-late}
+use Rattle.writer.specs.Bodies.{bodyBits, Passed}
+use Rattle.writer.proofs.Laws.Bodies.{passed, refused-out, pass-prefix, pass-out}
+use Rattle.layout.specs.declared.Parts.{Parts}
 use borrow.Author.Needs.{needs}
 use Rattle.writer.proofs.write.Statement.{statement}
 use Rattle.writer.proofs.write.Tie as tie
@@ -146,12 +148,12 @@ finished d n y t =
 returns-5 : tie.Need-returns-5
 returns-5 c =
     let b : tie.After-write-body = search in
-    let v : tie.After-wide = search in
+    let v : tie.After-wide16 = search in
     let y : tie.After-bytes = search in
     let f : tie.After-byte = search in
     let w : tie.After-write-prefix = search in
     let d : tie.Else3 = search in
-    finished d _ _ _ (v .wide .ensures .0 ∙ y .bytes .ensures) (sym (w .write-prefix .ensures) ∙ f .byte .given .1) (b .write-body .ensures)
+    finished d _ _ _ (v .wide16 .ensures .0 ∙ y .bytes .ensures) (sym (w .write-prefix .ensures) ∙ f .byte .given .1) (b .write-body .ensures)
 
 pub write-spec : {M : Type 1} → statement M
 write-spec =

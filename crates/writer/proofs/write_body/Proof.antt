@@ -8,10 +8,10 @@ use mathlib.Core.List.{List, map}
 use Rattle.bits.specs.Bits.{laid, view}
 use Rattle.bits.specs.Codecs.{writeAll}
 use Rattle.words.specs.Tables.{coding}
-use Rattle.words.specs.Writes.{run-few}
-use Rattle.norms.specs.Part.{bits-few}
-use Rattle.frame.specs.Reads.{spare-le}
-use Rattle.writer.specs.Bodies.{body-laid}
+use Rattle.runs.proofs.Laws.Writes.{run-few}
+use Rattle.norms.proofs.Laws.Part.{bits-few}
+use Rattle.kinds.proofs.Laws.Budget.{spare-le}
+use Rattle.writer.proofs.Laws.Bodies.{body-laid}
 use borrow.Author.Needs.{needs}
 use Rattle.writer.proofs.write_body.Statement.{statement}
 use Rattle.writer.proofs.write_body.Tie as tie
@@ -59,7 +59,7 @@ wide8-requires c κs = search needs
 write-bits-requires-2 : tie.Need-write-bits-requires-2
 write-bits-requires-2 c κs = search needs
 
-wide-requires : tie.Need-wide-requires
+wide-requires : tie.Need-wide16-requires
 wide-requires c κs = search needs
 
 add-copy-bits : tie.Need-add-copy-bits
@@ -72,7 +72,7 @@ add-copy-bits-3 : tie.Need-add-copy-bits-3
 add-copy-bits-3 c = omega (arith, few (c .before .before .before .before .before .before .before))
 
 copy-bits-requires : tie.Need-copy-bits-requires
-copy-bits-requires c κs = omega (arith, few (c .before .before .before .before .before .before .before), c .before .wide .ensures .1)
+copy-bits-requires c κs = omega (arith, few (c .before .before .before .before .before .before .before), c .before .wide16 .ensures .1)
 
 same-length : tie.Need-same-length
 same-length c = search needs
@@ -90,7 +90,7 @@ returns c =
     (w .ensures .0 ∙ ap (λ (l : List ℕ). length (writeAll (map coding l) vs)) q)
     (w .ensures .1 ∙ ap (λ (l : List ℕ). laid (n .last .0) (12 + n .result) (writeAll (map coding l) vs)) q)
     (c .before .before .before .before .before .before .before .before .before .before .spare-of .ensures) (c .before .before .before .before .before .before .before .before .wide8 .ensures) (c .before .before .before .before .before .before .before .write-bits2 .ensures)
-    (c .before .before .copy-bits .ensures ∙ ap (λ (t : ℕ). laid (c .before .before .before .before .before .before .before .write-bits2 .last .0) (12 + n .result + w .result + c .before .before .before .before .before .before .before .before .before .before .spare-of .result) (view ts 0 t)) (c .before .before .before .before .wide .ensures .0))
+    (c .before .before .copy-bits .ensures ∙ ap (λ (t : ℕ). laid (c .before .before .before .before .before .before .before .write-bits2 .last .0) (12 + n .result + w .result + c .before .before .before .before .before .before .before .before .before .before .spare-of .result) (view ts 0 t)) (c .before .before .before .before .wide16 .ensures .0))
 
 pub write-body-spec : {M : Type 1} → statement M
 write-body-spec =

@@ -1,6 +1,6 @@
 -- `writer::write_empty` meets its contract. Assumes nothing.
 use denote.Ref.{now}
-use Rattle.writer.specs.Empty.{empty-none, empty-some}
+use Rattle.writer.proofs.Laws.Empty.{empty-none, empty-some}
 use borrow.Author.Needs.{needs}
 use Rattle.writer.proofs.write_empty.Statement.{statement}
 use Rattle.writer.proofs.write_empty.Tie as tie

@@ -1,8 +1,9 @@
 -- `writer::write_reply` meets its contract: the rooms and the noise, then the layout and the tail. Assumes nothing.
 use mathlib.Core.Path.{ap, _∙_}
 use denote.Ref.{now}
-use Rattle.writer.specs.Writes.{lateReply, reply-early, reply-late}
-use Rattle.writer.specs.declared.Parts.{Parts}
+use Rattle.writer.specs.Writes.{lateReply}
+use Rattle.writer.proofs.Laws.Writes.{reply-early, reply-late}
+use Rattle.layout.specs.declared.Parts.{Parts}
 use borrow.Author.Needs.{needs}
 use Rattle.writer.proofs.write_reply.Statement.{statement}
 use Rattle.writer.proofs.write_reply.Tie as tie

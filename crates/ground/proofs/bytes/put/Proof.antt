@@ -3,7 +3,7 @@ use Prim.Native.Nat.{_-_}
 use borrow.Author.Needs.{needs}
 use lib.ListN.{length}
 use native.Mathlib.Omega.{arith}
-use Rattle.ground.specs.Laying.{Putting, put-start, put-turn, put-end}
+use Rattle.ground.proofs.Laws.Laying.{Putting, put-start, put-turn, put-end}
 use Rattle.ground.proofs.bytes.put.Statement.{statement}
 use Rattle.ground.proofs.bytes.put.Tie as tie
 

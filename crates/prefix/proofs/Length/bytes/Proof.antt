@@ -1,6 +1,6 @@
 -- `prefix::Length::bytes` meets its contract: an L has the bytes of the mode that it names. Assumes nothing.
 use mathlib.Core.Path.{sym, ap, _∙_}
-use Rattle.prefix.specs.Sizes.{bytesNamed, bytes-named}
+use Rattle.prefix.proofs.Laws.Sizes.{bytesNamed, bytes-named}
 use borrow.Author.Needs.{needs}
 use Rattle.prefix.proofs.Length.bytes.Statement.{statement}
 use Rattle.prefix.proofs.Length.bytes.Tie as tie

@@ -1,7 +1,7 @@
 -- `prefix::Length::mode` meets its contract: mode = L − 8. Assumes nothing.
 use mathlib.Core.Path.{sym}
 use native.Mathlib.Omega.{arith}
-use Rattle.prefix.specs.Sizes.{a2-below, a2-above, a2-between}
+use Rattle.prefix.proofs.Laws.Sizes.{a2-below, a2-above, a2-between}
 use Rattle.prefix.proofs.Length.mode.Statement.{statement}
 use Rattle.prefix.proofs.Length.mode.Tie as tie
 

@@ -1,7 +1,7 @@
 -- `prefix::Mode::bytes` meets its contract, by Table A.2's two formulas. Assumes nothing.
 use mathlib.Core.Path.{sym}
 use native.Mathlib.Omega.{arith}
-use Rattle.prefix.specs.Sizes.{mode-past, mode-ten, mode-twenty}
+use Rattle.prefix.proofs.Laws.Sizes.{mode-past, mode-ten, mode-twenty}
 use borrow.Author.Needs.{needs}
 use Rattle.prefix.proofs.Mode.bytes.Statement.{statement}
 use Rattle.prefix.proofs.Mode.bytes.Tie as tie

@@ -1,7 +1,7 @@
 -- `prefix::Mode::field` meets its contract: mode = L − 8. Assumes nothing.
 use mathlib.Core.Path.{sym}
 use native.Mathlib.Omega.{arith}
-use Rattle.prefix.specs.Sizes.{length-mode, no-length}
+use Rattle.prefix.proofs.Laws.Sizes.{length-mode, no-length}
 use borrow.Author.Needs.{needs}
 use Rattle.prefix.proofs.Mode.field.Statement.{statement}
 use Rattle.prefix.proofs.Mode.field.Tie as tie

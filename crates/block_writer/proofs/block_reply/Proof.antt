@@ -1,0 +1,56 @@
+-- `blocks::writing::block_reply` meets its contract: the rooms, the frames' causes, and last the output. Assumes nothing.
+use borrow.Author.Needs.{needs}
+use denote.Ref.{now}
+use lib.ListN.{length}
+use mathlib.Core.Path.{_≡_, sym, _∙_}
+use native.Mathlib.Omega.{arith}
+use Rattle.frames.specs.Rooms.{roomReply}
+use Rattle.block_writer.specs.Writing.{framesReply}
+use Rattle.frames.proofs.Laws.Rooms.{Roomy, rooms-told}
+use Rattle.block_writer.proofs.Laws.Writing.{block-long, block-early, block-late, block-short, block-done}
+use Rattle.block_writer.proofs.block_reply.Statement.{statement}
+use Rattle.block_writer.proofs.block_reply.Tie as tie
+
+-- the rooms are there
+rooms : (e : tie.Else1) → let a : tie.Start = search in roomReply (a .args .channels) (length (now (a .args .codes))) (length (now (a .args .tails))) ≡ 0
+rooms e = let m : tie.After-room-reply = search in sym (m .room-reply .ensures) ∙ e .if1 .left
+
+-- every frame passes
+frames : (e : tie.Else2) → let a : tie.Start = search in framesReply (a .args .records) (now (a .args .codes)) (now (a .args .tails)) (a .args .channels) ≡ 0
+frames e = let f : tie.After-frames-reply = search in sym (f .frames-reply .ensures) ∙ e .if2 .left
+
+frames-reply-requires : tie.Need-frames-reply-requires
+frames-reply-requires c κs =
+    let r : let a : tie.Start = search in Roomy (a .args .channels) (length (now (a .args .codes))) (length (now (a .args .tails))) = rooms-told (rooms (search)) in
+    (r .few, r .numbers, r .bytes)
+
+returns-2 : tie.Need-returns-2
+returns-2 c =
+    let f : tie.After-frames-reply = search in
+    block-late _ _ _ _ _ (rooms (search)) (f .frames-reply .ensures) (search)
+
+returns-3 : tie.Need-returns-3
+returns-3 c =
+    let b : tie.After-block-bytes = search in
+    let a : tie.Start = search in
+    block-short _ _ _ _ _ (rooms (search)) (frames (search))
+    (omega (arith, b .block-bytes .ensures, block-long (a .args .records) (now (a .args .codes)) (now (a .args .tails)) (a .args .channels)))
+
+returns-4 : tie.Need-returns-4
+returns-4 c =
+    let b : tie.After-block-bytes = search in
+    let a : tie.Start = search in
+    block-done _ _ _ _ _ (rooms (search)) (frames (search))
+    (omega (arith, b .block-bytes .ensures, block-long (a .args .records) (now (a .args .codes)) (now (a .args .tails)) (a .args .channels)))
+
+pub block-reply-spec : {M : Type 1} → statement M
+block-reply-spec =
+    tie.close
+    (tie.spec
+    (λ c κs. search needs)
+    (λ c. search block-early)
+    frames-reply-requires
+    returns-2
+    (λ c κs. rooms-told (rooms (search)) .few)
+    returns-3
+    returns-4)

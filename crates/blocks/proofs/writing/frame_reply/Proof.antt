@@ -1,8 +1,0 @@
--- `blocks::writing::frame_reply` meets its contract. Assumes nothing.
-use borrow.Author.Needs.{needs}
-use Rattle.blocks.proofs.WritingLaws.{full-reply}
-use Rattle.blocks.proofs.writing.frame_reply.Statement.{statement}
-use Rattle.blocks.proofs.writing.frame_reply.Tie as tie
-
-pub frame-reply-spec : {M : Type 1} → statement M
-frame-reply-spec = tie.close (tie.spec (λ c. search needs) (λ c κs. search needs) (λ c. search full-reply))

@@ -1,3 +1,0 @@
-pub mod Rooms
-pub mod Reading
-pub mod Writing

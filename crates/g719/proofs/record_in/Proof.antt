@@ -1,8 +1,0 @@
--- `g719::record_in` meets its contract: flag by flag. Assumes nothing.
-use Rattle.g719.proofs.Flags.{made-in}
-use borrow.Author.Needs.{needs}
-use Rattle.g719.proofs.record_in.Statement.{statement}
-use Rattle.g719.proofs.record_in.Tie as tie
-
-pub record-in-spec : {M : Type 1} → statement M
-record-in-spec = tie.close (tie.spec (λ c κs. search needs) (λ c κs. search needs) (λ c κs. search needs) (λ c κs. search needs) (λ c. search made-in))

@@ -1,0 +1,10 @@
+-- The laws of this crate, for its own proofs and for the crates above.
+pub mod Cases
+pub mod Copies
+pub mod Fills
+pub mod Indices
+pub mod Laying
+pub mod Order
+pub mod Runs
+pub mod Sums
+pub mod Whole

@@ -1,0 +1,92 @@
+-- Laws of specs/Kinds.
+-- Assumes nothing.
+use mathlib.Core.Path.{_≡_, sym, _∙_}
+use mathlib.Core.Bool.{Bool, true, false}
+use mathlib.Core.List.{List}
+use Prim.Native.Nat.{ℕ, _+_, _-_, _/_, _%_, _≤_, _<_}
+use native.Mathlib.Omega.{arith}
+use lib.Dec.{ltb}
+use lib.ListN.{length, getD}
+use borrow.Author.Tests.{lt-ltb, le-ltb, ltb-true, ltb-false, le-leb, lt-leb, eq-eqb, ne-eqb}
+use Rattle.ground.specs.Cases.{by-bool}
+use Rattle.ground.specs.Fills.{length-from}
+use Rattle.kinds.specs.Kinds.{bandOf, kindOf, kinds}
+
+pub length-kinds : (flagC : Bool) (rates : List ℕ) → length (kinds flagC rates) ≡ 800
+unfolding kinds
+length-kinds flagC rates = length-from (λ i. kindOf flagC (getD rates (bandOf i) 0) i) 800 0
+
+-- ---- the band of a place, by its four parts
+
+pub band-8 : (i : ℕ) → i < 128 → i / 8 ≡ bandOf i
+unfolding bandOf
+band-8 i h = rw (lt-ltb i 128 h)
+
+pub band-16 : (i : ℕ) → 128 ≤ i → i < 256 → 16 + (i - 128) / 16 ≡ bandOf i
+unfolding bandOf
+band-16 i p h = rw (le-ltb i 128 p, lt-ltb i 256 h)
+
+pub band-24 : (i : ℕ) → 256 ≤ i → i < 544 → 24 + (i - 256) / 24 ≡ bandOf i
+unfolding bandOf
+band-24 i p h = rw (le-ltb i 128 (omega arith), le-ltb i 256 p, lt-ltb i 544 h)
+
+pub band-32 : (i : ℕ) → 544 ≤ i → 36 + (i - 544) / 32 ≡ bandOf i
+unfolding bandOf
+band-32 i p = rw (le-ltb i 128 (omega arith), le-ltb i 256 (omega arith), le-ltb i 544 p)
+
+-- ---- the kind of a place, by the tests
+
+module _ (c : Bool) (rate i : ℕ) where
+  pub kind-first : rate ≡ 1 → i % 8 ≡ 0 → 8 ≡ kindOf c rate i
+  unfolding kindOf
+  kind-first h m = rw (eq-eqb rate 1 h, eq-eqb (i % 8) 0 m)
+
+  pub kind-none : rate ≡ 1 → (i % 8 ≡ 0 → ⊥) → 0 ≡ kindOf c rate i
+  unfolding kindOf
+  kind-none h m = rw (eq-eqb rate 1 h, ne-eqb (i % 8) 0 m)
+
+  module _ (h : rate ≡ 1 → ⊥) where
+    pub kind-word : c ≡ true → 2 ≤ rate → rate ≤ 5 → rate + 14 ≡ kindOf c rate i
+    unfolding kindOf
+    kind-word e l m = rw (ne-eqb rate 1 h, e, le-leb 2 rate l, le-leb rate 5 m)
+
+    pub kind-high : c ≡ true → 2 ≤ rate → 5 < rate → rate ≡ kindOf c rate i
+    unfolding kindOf
+    kind-high e l m = rw (ne-eqb rate 1 h, e, le-leb 2 rate l, lt-leb rate 5 m)
+
+    pub kind-low : c ≡ true → rate < 2 → rate ≡ kindOf c rate i
+    unfolding kindOf
+    kind-low e l = rw (ne-eqb rate 1 h, e, lt-leb 2 rate l)
+
+    pub kind-plain : c ≡ false → rate ≡ kindOf c rate i
+    unfolding kindOf
+    kind-plain e = rw (ne-eqb rate 1 h, e)
+
+-- ---- eight places at a time: a group of eight lies in one band, and its places but the first are of one kind
+
+pub band-group : (i k : ℕ) → i % 8 ≡ 0 → i ≤ k → k < i + 8 → bandOf k ≡ bandOf i
+band-group i k m l h =
+    by-bool (ltb i 128)
+    (λ a. let p = ltb-true i 128 a in sym (band-8 k (omega arith)) ∙ (let q : k / 8 ≡ i / 8 = omega arith in q) ∙ band-8 i p)
+    (λ a.
+    let p = ltb-false i 128 a in
+    by-bool (ltb i 256)
+    (λ b. let q = ltb-true i 256 b in sym (band-16 k (omega arith) (omega arith)) ∙ sixteen i k m l h p ∙ band-16 i p q)
+    (λ b.
+    let q = ltb-false i 256 b in
+    by-bool (ltb i 544)
+    (λ c. let r = ltb-true i 544 c in sym (band-24 k (omega arith) (omega arith)) ∙ twenty-four i k m l h q ∙ band-24 i q r)
+    (λ c. let r = ltb-false i 544 c in sym (band-32 k (omega arith)) ∙ thirty-two i k m l h r ∙ band-32 i r)))
+  where
+    sixteen : (i k : ℕ) → i % 8 ≡ 0 → i ≤ k → k < i + 8 → 128 ≤ i → 16 + (k - 128) / 16 ≡ 16 + (i - 128) / 16
+    sixteen i k m l h p = omega arith
+
+    twenty-four : (i k : ℕ) → i % 8 ≡ 0 → i ≤ k → k < i + 8 → 256 ≤ i → 24 + (k - 256) / 24 ≡ 24 + (i - 256) / 24
+    twenty-four i k m l h p = omega arith
+
+    thirty-two : (i k : ℕ) → i % 8 ≡ 0 → i ≤ k → k < i + 8 → 544 ≤ i → 36 + (k - 544) / 32 ≡ 36 + (i - 544) / 32
+    thirty-two i k m l h p = omega arith
+
+pub kind-group : (c : Bool) (rate i k : ℕ) → (i % 8 ≡ 0 → ⊥) → (k % 8 ≡ 0 → ⊥) → kindOf c rate i ≡ kindOf c rate k
+unfolding kindOf
+kind-group c rate i k m n = rw (ne-eqb (i % 8) 0 m, ne-eqb (k % 8) 0 n)

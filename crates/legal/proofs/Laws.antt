@@ -1,0 +1,5 @@
+-- The laws of this crate, for its own proofs and for the crates above.
+pub mod Answers
+pub mod Greatest
+pub mod Legal
+pub mod Loops

@@ -1,0 +1,7 @@
+-- The laws of this crate, for its own proofs and for the crates above.
+pub mod Answers
+pub mod Loops
+pub mod Part
+pub mod Reads
+pub mod Steps
+pub mod Sure

@@ -1,0 +1,103 @@
+-- Laws of specs/Answers.
+-- Assumes nothing.
+use mathlib.Core.Path.{_≡_, sym, ap, _∙_}
+use mathlib.Core.Bool.{Bool, true, false, cond}
+use mathlib.Core.List.{List, [], _∷_, map}
+use Prim.Native.Nat.{ℕ, _+_, _≤_, _<_}
+use lib.Dec.{leb, ltb}
+use lib.ListN.{length, getD, drop, replicate}
+use native.Mathlib.Omega.{arith}
+use borrow.Author.Tests.{le-leb, lt-leb, leb-true, leb-false, lt-ltb, le-ltb, ltb-true, ltb-false, eq-eqb, ne-eqb}
+use Rattle.ground.specs.Cases.{by-bool}
+use Rattle.ground.specs.Indices.{inRange}
+use Rattle.ground.proofs.Laws.Indices.{range-yes, range-at}
+use Rattle.ground.specs.Replies.{done, outOfRange, farApart}
+use Rattle.bits.specs.Codecs.{writeAll}
+use Rattle.words.specs.Tables.{coding}
+use Rattle.order.specs.Order.{sent, length-sent}
+use Rattle.order.proofs.Laws.Order.{sent-first, sent-each, each-sent}
+use Rattle.norms.specs.Steps.{stepsClose, Near, length-numbers}
+use Rattle.norms.proofs.Laws.Steps.{near-range, near-first, steps-near}
+use Rattle.norms.specs.Part.{numbersOf, normKinds, normBits, Writable}
+use Rattle.norms.proofs.Laws.Part.{bits-split}
+use Rattle.norms.specs.Answers.{normReply, wordTotal, choiceOf}
+
+-- ---- what the code answers
+
+module _ (transient : Bool) (norms : List ℕ) where
+  pub reply-range : inRange norms 44 ≡ false → outOfRange ≡ normReply transient norms
+  unfolding normReply
+  reply-range e = rw e
+
+  pub reply-first : inRange norms 44 ≡ true → 31 < getD norms 0 0 → outOfRange ≡ normReply transient norms
+  unfolding normReply
+  reply-first e h = rw (e, lt-leb (getD norms 0 0) 31 h)
+
+  pub reply-steps : (t : Bool) → inRange norms 44 ≡ true → getD norms 0 0 ≤ 31 → stepsClose (sent transient norms) ≡ t → cond t done farApart ≡ normReply transient norms
+  unfolding normReply
+  reply-steps t e h q = rw (e, le-leb (getD norms 0 0) 31 h, q)
+
+  pub choice-no : (r : ℕ) → r ≡ normReply transient norms → (r ≡ 0 → ⊥) → record { reply = r; flag = false } ≡ choiceOf transient norms
+  unfolding choiceOf
+  choice-no r e n = rw (← e, ne-eqb r 0 n)
+
+  module _ (l : length norms ≡ 44) where
+    total : (ws : List ℕ) → 0 < length ws → length (writeAll (map coding (normKinds true)) ws) ≡ 5 + length (writeAll (map coding (replicate 43 20)) (drop 1 ws))
+    total [] h = absurd (omega arith)
+    total (w ∷ ws) h = bits-split true w ws
+
+    -- the norm part with words is the 43 words and five bits more
+    pub total-bits : length (normBits transient true norms) ≡ 5 + wordTotal transient norms
+    unfolding normBits wordTotal
+    total-bits = total (numbersOf transient norms) (omega (arith, length-numbers 15 (sent transient norms), length-sent transient norms l))
+
+    pub choice-yes : (r n : ℕ) → r ≡ normReply transient norms → r ≡ 0 → n ≡ length (normBits transient true norms) → record { reply = done; flag = ltb n 220 } ≡ choiceOf transient norms
+    unfolding choiceOf
+    choice-yes r n e z q =
+        let m : n ≡ 5 + wordTotal transient norms = q ∙ total-bits in
+        rw (← e, eq-eqb r 0 z) (ap (λ (t : Bool). record { reply = done; flag = t }) (same-ltb n (wordTotal transient norms) m))
+      where
+        same-ltb : (n k : ℕ) → n ≡ 5 + k → ltb n 220 ≡ ltb k 215
+        same-ltb n k e =
+            by-bool (ltb k 215) (λ t. lt-ltb n 220 (omega (arith, ltb-true k 215 t)) ∙ sym t) (λ t. le-ltb n 220 (omega (arith, ltb-false k 215 t)) ∙ sym t)
+
+-- ---- which norms are writable
+
+pub writable-range : (transient : Bool) (norms : List ℕ) → Writable transient norms → (p : ℕ) → p < 44 → getD norms p 0 ≤ 39
+writable-range transient norms w =
+    let ss = sent transient norms in
+    each-sent transient norms (λ (x : ℕ). x ≤ 39) (λ i h. near-range 15 ss (w .near) i (omega (arith, length-sent transient norms (w .long))))
+
+-- the reply is 0 exactly for norms that can be written
+module _ (transient : Bool) (norms : List ℕ) (l : length norms ≡ 44) where
+  pub reply-writable : Writable transient norms → normReply transient norms ≡ done
+  reply-writable w =
+      let ss = sent transient norms in
+      let ls = length-sent transient norms l in
+      let small = each-sent transient norms (λ (x : ℕ). x ≤ 39) (λ i h. near-range 15 ss (w .near) i (omega arith)) in
+      sym
+      (reply-steps transient norms true (range-yes norms 44 small) (first ss ls (w .near) (sent-first transient norms)) (steps-near ss (w .near)))
+    where
+      first : (ss : List ℕ) → length ss ≡ 44 → Near 15 ss → getD ss 0 0 ≡ getD norms 0 0 → getD norms 0 0 ≤ 31
+      first [] ls n e = absurd (omega arith)
+      first (y ∷ ys) ls n e = omega (arith, n .2)
+
+  pub writable-reply : normReply transient norms ≡ done → Writable transient norms
+  writable-reply e =
+      by-bool (inRange norms 44)
+      (λ r.
+      by-bool (leb (getD norms 0 0) 31)
+      (λ f.
+      by-bool (stepsClose (sent transient norms))
+      (λ c.
+      let ls = length-sent transient norms l in
+      let ss = sent transient norms in
+      record {
+        long = l;
+        near =
+            near-first ss (omega arith) (λ i h. sent-each transient norms (λ (x : ℕ). x ≤ 39) (range-at norms 44 r) i (omega arith))
+            (omega (arith, sent-first transient norms, leb-true (getD norms 0 0) 31 f)) c;
+      })
+      (λ c. absurd (let z = reply-steps transient norms false r (leb-true _ _ f) c in omega arith)))
+      (λ f. absurd (let z = reply-first transient norms r (leb-false _ _ f) in omega arith)))
+      (λ r. absurd (let z = reply-range transient norms r in omega arith))

@@ -1,0 +1,9 @@
+-- The laws of this crate, for its own proofs and for the crates above.
+pub mod Begun
+pub mod Blocks
+pub mod Checked
+pub mod CutReport
+pub mod Frames
+pub mod Turns
+pub mod Units
+pub mod Walk
