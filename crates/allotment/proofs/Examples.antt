@@ -6,7 +6,8 @@ use mathlib.Core.List.{[], _∷_, _++_}
 use lib.ListN.{replicate}
 use Rattle.ground.specs.Fills.{from}
 use Rattle.weights.specs.Table17.{table17, rowAt, has, seek, rowOf}
-use Rattle.weights.specs.Weights.{loudness, sumOver, spe, bspe, forward, backward, renormed, largest, smallest, mapped, louds, spes, rowWeights, spread, weightsOf, score, scoresOf}
+use Rattle.weights.specs.Weights.{loudness, sumOver, spe, bspe, forward, backward, renormed, largest, smallest, mapped, louds, spes, rowWeights, spread}
+use Rattle.weights.specs.Weights.{weightsOf, score, scoresOf}
 use Rattle.ground.specs.Indices.{inRange}
 use Rattle.contest.specs.Bands.{lengthOf, competing}
 use Rattle.contest.specs.Rounds.{behind, leader, granted, dropped, first, ahead, round, contest, begin, played, rates}

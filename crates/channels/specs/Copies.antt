@@ -1,5 +1,4 @@
--- What taking a channel out and joining recordings answer (02, No. 2), over the frames of recordings: a channel is every n-th frame from its own on, a
--- join is one frame of each recording in turn.
+-- What checking blocks and taking a channel out answer (02, No. 2), over the frames of a recording: a channel is every n-th frame from its own on.
 -- Assumes nothing.
 use mathlib.Core.Bool.{Bool, false, cond}
 use mathlib.Core.List.{List, _++_}

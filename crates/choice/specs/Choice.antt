@@ -17,8 +17,6 @@ use Rattle.frame.specs.declared.Record.{Record}
 use Rattle.layout.specs.Fits.{fits}
 use Rattle.layout.specs.Parts.{total, budgetFor, kindsFor, firstOf, startReply}
 
--- ---- definitions
-
 -- rates 2–5
 unfoldable pub wordy : ℕ → Bool
 wordy rate = leb 2 rate && leb rate 5

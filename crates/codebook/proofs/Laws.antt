@@ -1,5 +1,4 @@
 -- The laws of this crate, for its own proofs and for the crates above.
 pub mod Classes
-pub mod Codebook
 pub mod OneToOne
 pub mod Rows

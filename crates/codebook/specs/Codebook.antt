@@ -52,6 +52,10 @@ classes =
     class 0 -2 +2 1 7 0 ∷ class 8 -2 +2 0 7 1 ∷ class 16 -2 +2 2 6 0 ∷ class 44 -2 +2 1 6 1 ∷ class 100 -2 +2 0 6 2 ∷ class 128 -1 +1 2 0 6 ∷
     class 156 -1 +1 4 0 4 ∷ []
 
+-- "226–253: … six −1; 254 all −1; 255 all 1"
+abbrev pub six : Class
+six = class 226 -1 +1 6 0 2
+
 abbrev pub ends : List Class
 ends = class 254 -1 +1 8 0 0 ∷ class 255 -1 +1 0 0 8 ∷ []
 

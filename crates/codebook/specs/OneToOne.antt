@@ -1,5 +1,4 @@
 -- At rate 1 the 256 indices and the rows that they name match one to one, and any other point is refused: said of the two calls.
--- No two rows have one code, so no two rows are alike.
 -- Assumes nothing.
 use mathlib.Core.Path.{_≡_}
 use mathlib.Core.List.{List, [], _∷_}

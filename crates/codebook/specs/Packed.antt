@@ -1,5 +1,5 @@
--- How the code keeps the rows, and what its inner functions promise each other. The code of a row has a binary digit for each place:
--- in its high byte a one for a number above 0, in its low byte a one for a number below 0. For a row of ±1 the low byte is the byte of signs.
+-- How the code keeps a row: a binary digit for each place, in the high byte a one for a number above 0, in the low byte a one for a number below 0.
+-- For a row of ±1 the low byte is the byte of signs.
 -- Assumes nothing.
 use mathlib.Core.Path.{_≡_}
 use mathlib.Core.Bool.{Bool, cond}

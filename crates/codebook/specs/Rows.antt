@@ -1,5 +1,4 @@
--- The code's two tables are the rows of the book, packed: by computation. So each row's code is in them, no two codes are alike, and a
--- row of ±1 is in the class that its ones tell.
+-- The code's two tables: the rows of the book, packed.
 -- Assumes nothing.
 use mathlib.Core.List.{List, [], _∷_}
 use Prim.Native.Nat.{ℕ}

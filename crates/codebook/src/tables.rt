@@ -1,7 +1,5 @@
 // Tables 18 and 19 as repaired, packed.
-// Rows 0 to 127: 256 times the places of 2, and the places of -2
 
-// Tables 18 and 19 as repaired, packed.
 // Rows 0 to 127: 256 times the places of 2, and the places of -2
 pub const TWOS: [u16; 128] = [
     1,

@@ -6,7 +6,7 @@ use lib.IntN.{ℤ, pos, _-ℤ_}
 use lib.Signed.{ltZ}
 use Rattle.ground.specs.Sums.{sumTo}
 
--- The steps of a band follow from its starting score and its rate: step t, from 0, was granted at score − 32 t (by the rounds: proofs/Grants, steps).
+-- The steps of a band follow from its starting score and its rate: step t, from 0, was granted at score − 32 t (by the rounds: proofs/Laws/Grants, steps).
 -- Of the first n steps, how many were granted at a score below s
 unfoldable pub stepsBelow : ℤ → ℤ → ℕ → ℕ
 stepsBelow s score zero = 0

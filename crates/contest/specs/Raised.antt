@@ -1,5 +1,5 @@
 -- The same contest with each score raised by 368, so that nine steps of 32 from a score of −80 stay natural: what the proofs and the code count in.
--- proofs/Bridge shows that it is the contest of Rounds.
+-- proofs/Laws/Bridge shows that it is the contest of Rounds.
 use mathlib.Core.Path.{_≡_}
 use mathlib.Core.Bool.{Bool, true, false, cond}
 use mathlib.Core.List.{List, [], _∷_}

@@ -71,7 +71,12 @@ module _ (total : ℕ) where
       → spare (isTransient flags) ≤ length (endingPart flags norms codes .write e)
   ending-long flags norms codes e k =
       let n = spare (isTransient flags) in
-      omega (arith, length-append (wordOf (fixed n) (e .0)) (raw (tailLeft total flags norms codes) .write (e .1)), ap length (word-fixed n (e .0)), length-word n (e .0))
+      omega (
+        arith,
+        length-append (wordOf (fixed n) (e .0)) (raw (tailLeft total flags norms codes) .write (e .1)),
+        ap length (word-fixed n (e .0)),
+        length-word n (e .0),
+      )
 
   abbrev pub restPart : List Bool → List ℕ → Codec 0 Rest
   restPart flags norms =

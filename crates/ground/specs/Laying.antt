@@ -1,5 +1,4 @@
--- A text laid over bytes from a place on, and its laws: texts laid one after the other are laid at once, and a text within the bytes
--- leaves what lies before and after it.
+-- A text laid over bytes from a place on: what lies before and after it stays.
 -- Assumes nothing.
 use mathlib.Core.Path.{_≡_}
 use mathlib.Core.List.{List, [], _∷_}

@@ -1,4 +1,4 @@
--- Lists made of runs, f 0 ++ f 1 ++ … ++ f (n − 1), and the laws of loops that fill an array from the front or a lent list part by part.
+-- Lists made of runs, f 0 ++ f 1 ++ … ++ f (n − 1), and a part of a list.
 -- Assumes nothing.
 use mathlib.Core.List.{List, [], _∷_, _++_}
 use Prim.Native.Nat.{ℕ, zero, suc, _*_}

@@ -65,7 +65,8 @@ partsWith budget rates n = record { reply = done; budget = budget; rates = rates
 -- 12: a code too wide for its rate or an unused place nonzero; 7: codes go past Ψ; else what the codes leave of Ψ is the tail
 unfoldable pub partsIn : ℕ → List ℕ → List ℕ → List ℕ → Parts
 partsIn budget rates kinds vs =
-    cond (fits (map coding kinds) vs) (cond (ltb budget (codesLong kinds vs)) (noParts pastBudget) (partsWith budget rates (codesLong kinds vs))) (noParts wideCode)
+    cond (fits (map coding kinds) vs) (cond (ltb budget (codesLong kinds vs)) (noParts pastBudget) (partsWith budget rates (codesLong kinds vs)))
+    (noParts wideCode)
 
 -- as the FlagC choice, 8, 10, 8, 9, 12; then 7. Noise and tail are not looked at
 unfoldable pub layoutOf : Record → List ℕ → Parts

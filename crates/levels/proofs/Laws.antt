@@ -4,6 +4,7 @@ pub mod Flat
 pub mod Jump
 pub mod Levels
 pub mod Order
+pub mod Serving
 pub mod State
 pub mod Thin
 pub mod Whole

@@ -1,4 +1,5 @@
--- What the code computes: how many offers of each band stand above a level, what they cost, and the best offer that fits the bits left.
+-- What the levels' call answers: the contest's end, from raised scores and a budget.
+-- Assumes nothing.
 use mathlib.Core.Bool.{Bool}
 use mathlib.Core.List.{List}
 use Prim.Native.Nat.{ℕ, _<_, _≤_}

@@ -1,4 +1,4 @@
--- The lines of a listing (01, Lister) as bytes: numbers as digits, the line of a frame, the total line.
+-- The lines of a listing (01, Lister) as bytes: the line of a frame, the total line.
 -- Assumes nothing.
 use mathlib.Core.List.{List, [], _∷_, _++_}
 use Prim.Native.Char.{code}

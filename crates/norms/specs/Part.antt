@@ -110,7 +110,8 @@ module _ (transient flagN : Bool) where
         record { long = length-banded transient ss l; near = subst (Near 15) (sym (sent-banded transient ss l)) (s .1) },
       )
 
-  pub norms-whole : (norms : List ℕ) → Writable transient norms → (normsOf transient (numbersOf transient norms) ≡ fine norms) × sentWords .Ok (numbersOf transient norms)
+  pub norms-whole : (norms : List ℕ) → Writable transient norms
+      → (normsOf transient (numbersOf transient norms) ≡ fine norms) × sentWords .Ok (numbersOf transient norms)
   unfolding words
   norms-whole norms w =
       let ss = sent transient norms in

@@ -1,5 +1,3 @@
-// The order in which the 44 norms are sent (8.2): band order, or in a transient frame the interleaved order.
-
 // 01's sent order of a transient frame: the band at each place, and the place of each band.
 pub const ORDER: [usize; 44] = [
     0,

@@ -1,5 +1,4 @@
 -- "At each rate from 2 to 9 the lattice indices and the points they name match one to one, and any other point is refused": said of the two calls.
--- It rests on one fact, that the way back from the point of an index leads to that index.
 -- Assumes nothing.
 use mathlib.Core.Path.{_≡_}
 use mathlib.Core.List.{List}

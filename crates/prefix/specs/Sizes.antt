@@ -1,4 +1,4 @@
--- The sizes of a frame's body: Table 22 by mode, Table A.2 by the field L. They name the same sizes, and neither number stands for the other.
+-- The sizes of a frame's body: Table 22 by mode, Table A.2 by the field L.
 -- Assumes nothing.
 use mathlib.Core.Bool.{cond}
 use mathlib.Core.List.{List, [], _∷_}

@@ -45,7 +45,8 @@ whole-blocks src n booking e =
     let q : checkAnswer src n booking ≡ checkBlocks n src booking = rw t refl in
     let w = checked.check-whole (blocks.block-lawful n (c .0)) src booking .0 (sym (ap (λ (x : Check). x .reply) q) ∙ e) in
     (c .0, c .1, w .0, w .1))
-    (λ t. absurd (let q : checkAnswer src n booking ≡ madeCheck wrongChannels 0 0 = rw t refl in let y = sym (ap (λ (x : Check). x .reply) q) ∙ e in omega (arith, y)))
+    (λ t. absurd (let q : checkAnswer src n booking ≡ madeCheck wrongChannels 0 0 = rw t refl in
+    let y = sym (ap (λ (x : Check). x .reply) q) ∙ e in omega (arith, y)))
 
 lying : {src lengths : List ℕ} {k : ℕ} → Joinable src lengths k → Lying src lengths
 lying J = record { few = J .most; inside = J .inside }
@@ -60,13 +61,15 @@ sound-recordings-join src lengths k room J h =
     let l = joined-length src lengths room k J in
     join-made src lengths room k J (omega (arith, l)) ∙ ap (madeCopy done 0 k 0) l
 
-pub only-sound-recordings-join : (src lengths : List ℕ) (room : ℕ) → joinAnswer src lengths room .reply ≡ done → Joinable src lengths (joinAnswer src lengths room .count)
+pub only-sound-recordings-join : (src lengths : List ℕ) (room : ℕ) → joinAnswer src lengths room .reply ≡ done
+    → Joinable src lengths (joinAnswer src lengths room .count)
 only-sound-recordings-join src lengths room e =
     let D = join-told src lengths room e in
     subst (Joinable src lengths) (sym (ap (λ (c : Copied). c .count) (D .answer))) (D .joinable)
 
 -- what is laid down is the joined recording, at the front of the output
-pub join-lays : (src lengths out : List ℕ) → joinAnswer src lengths (length out) .reply ≡ done → joinAfter src lengths out ≡ joinedOf src lengths ++ drop (length (joinedOf src lengths)) out
+pub join-lays : (src lengths out : List ℕ) → joinAnswer src lengths (length out) .reply ≡ done
+    → joinAfter src lengths out ≡ joinedOf src lengths ++ drop (length (joinedOf src lengths)) out
 join-lays src lengths out e = rw (eq-eqb (joinAnswer src lengths (length out) .reply) 0 e) refl
 
 -- ---- 1. "Taking channel c out of a joined recording gives back recording c": byte for byte, for every c
@@ -88,8 +91,10 @@ taken-out-of-a-join src lengths room e c h out l =
     let d =
     extract-done (joinedOf src lengths) n c out (among-of n c (J .some) (J .most) h) (madeCheck done k (length (joinedOf src lengths)))
     (sym (walk-made n (J .some) k (joinedOf src lengths) B (J .few))) refl (nth lengths c) m (r c ++ drop (nth lengths c) out) l
-    (ap₂ (λ (y : List ℕ) (j : ℕ). y ++ drop j out) (sym x) m) in
-    (sym (d .0) ∙ ap (λ (j : ℕ). madeCopy done 0 j (length (joinedOf src lengths)) (nth lengths c)) (sym (ap (λ (y : Copied). y .count) (D .answer))), sym (d .1))
+    (ap₂ (λ (y : List ℕ) (j : ℕ). y ++ drop j out) (sym x) m) in (
+      sym (d .0) ∙ ap (λ (j : ℕ). madeCopy done 0 j (length (joinedOf src lengths)) (nth lengths c)) (sym (ap (λ (y : Copied). y .count) (D .answer))),
+      sym (d .1),
+    )
 
 -- ---- 2. A joined recording checks sound, with the common count of blocks; and the join of all channels of a sound recording is that recording
 
@@ -104,7 +109,8 @@ join-checks-sound src lengths room e =
     let k = ownCheck src lengths 0 .count in
     let q : joinAnswer src lengths room .count ≡ k = ap (λ (y : Copied). y .count) (D .answer) in
     rw (blocks.is-counted n (J .some) (J .most))
-    (ap (checkBlocks n (joinedOf src lengths)) q ∙ checked.all-booked (blocks.block-lawful n (J .some)) (joined-blocks n k (recordingAt src lengths) (J .sound)) k (J .few) refl
+    (ap (checkBlocks n (joinedOf src lengths)) q
+    ∙ checked.all-booked (blocks.block-lawful n (J .some)) (joined-blocks n k (recordingAt src lengths) (J .sound)) k (J .few) refl
     ∙ ap (λ (j : ℕ). madeCheck done j (length (joinedOf src lengths))) (sym q))
 
 pub join-of-all-channels : (s : List ℕ) (n k : ℕ) → checkAnswer s n k .reply ≡ done

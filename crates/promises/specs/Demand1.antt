@@ -127,7 +127,8 @@ start-among xs z e n t r codes =
     picked (OneOf xs) (ltb 19 (r .mode)) outOfRange _ e (picked (OneOf xs) (ltb codes 800) shortRoom _ t (norm-among xs z e n (r .transient) (r .norms)))
 
 -- how it is laid out: 7 and 12 too
-layout-among : (xs : List ℕ) → OneOf xs 0 → OneOf xs 7 → OneOf xs 8 → OneOf xs 9 → OneOf xs 10 → OneOf xs 12 → (r : Record) (codes : List ℕ) → OneOf xs (layoutOf r codes .reply)
+layout-among : (xs : List ℕ) → OneOf xs 0 → OneOf xs 7 → OneOf xs 8 → OneOf xs 9 → OneOf xs 10 → OneOf xs 12 → (r : Record) (codes : List ℕ)
+    → OneOf xs (layoutOf r codes .reply)
 unfolding layoutOf partsIn
 layout-among xs z s e n t w r codes =
     let ks = kindsFor r in
@@ -140,7 +141,8 @@ layout-among xs z s e n t w r codes =
 
 tail-number : (ts : List ℕ) (left count : ℕ) → OneOf writing (tailReply ts left count)
 unfolding among tailReply
-tail-number ts left count = picked (OneOf writing) (eqb count left) _ wrongTail (picked (OneOf writing) (clear (view ts count (2560 - count))) done wrongTail tt tt) tt
+tail-number ts left count =
+    picked (OneOf writing) (eqb count left) _ wrongTail (picked (OneOf writing) (clear (view ts count (2560 - count))) done wrongTail tt tt) tt
 
 pub write-number : (r : Record) (codes tail : List ℕ) (room : ℕ) → OneOf writing (writeReply r codes tail room)
 unfolding among writeReply
@@ -179,7 +181,8 @@ unfolding among flagC choiceReply
 flag-c-number r codes =
     let x = startReply r (length codes) in
     picked (λ (c : Choice). OneOf choosing (c .reply)) (eqb (choiceReply r codes) 0) _ _ tt
-    (picked (OneOf choosing) (eqb x 0) _ x (picked (OneOf choosing) (fits (map coding (kindsFor (plain r))) (take 800 codes)) done wideCode tt tt) (start-among choosing tt tt tt tt r (length codes)))
+    (picked (OneOf choosing) (eqb x 0) _ x (picked (OneOf choosing) (fits (map coding (kindsFor (plain r))) (take 800 codes)) done wideCode tt tt)
+    (start-among choosing tt tt tt tt r (length codes)))
 
 -- ---- the layout of a record: 0, 7, 8, 9, 10, 12
 
@@ -204,7 +207,8 @@ two-to-seven xs a b c d e f (suc (suc (suc (suc (suc (suc zero)))))) l h = e
 two-to-seven xs a b c d e f (suc (suc (suc (suc (suc (suc (suc zero))))))) l h = f
 two-to-seven xs a b c d e f (suc (suc (suc (suc (suc (suc (suc (suc x)))))))) l h = absurd (omega arith)
 
-number-one : (xs : List ℕ) → OneOf xs 0 → OneOf xs 2 → OneOf xs 3 → OneOf xs 4 → OneOf xs 5 → OneOf xs 6 → OneOf xs 7 → OneOf xs 11 → OneOf xs 15 → (x : ℕ) → Number x → OneOf xs x
+number-one : (xs : List ℕ) → OneOf xs 0 → OneOf xs 2 → OneOf xs 3 → OneOf xs 4 → OneOf xs 5 → OneOf xs 6 → OneOf xs 7 → OneOf xs 11 → OneOf xs 15 → (x : ℕ)
+    → Number x → OneOf xs x
 number-one xs z a b c d e f u m x (inl q) = subst (OneOf xs) (sym q) z
 number-one xs z a b c d e f u m x (inr (inl q)) = two-to-seven xs a b c d e f x (q .0) (q .1)
 number-one xs z a b c d e f u m x (inr (inr (inl q))) = subst (OneOf xs) (sym q) u
@@ -229,7 +233,8 @@ check-number src booking = number-one checking tt tt tt tt tt tt tt tt tt (check
 
 -- ---- blocks of several channels: reading 0–7, 10, 17; writing 0, 7, 8, 9, 10, 12, 13, 17; the check as of a recording, and 17
 
-pub read-block-number : (src : List ℕ) (channels codes tails : ℕ) → OneOf (0 ∷ 1 ∷ 2 ∷ 3 ∷ 4 ∷ 5 ∷ 6 ∷ 7 ∷ 10 ∷ 17 ∷ []) (blockRead.blockReply src channels codes tails)
+pub read-block-number : (src : List ℕ) (channels codes tails : ℕ)
+    → OneOf (0 ∷ 1 ∷ 2 ∷ 3 ∷ 4 ∷ 5 ∷ 6 ∷ 7 ∷ 10 ∷ 17 ∷ []) (blockRead.blockReply src channels codes tails)
 unfolding among
 read-block-number = read-numbers (OneOf (0 ∷ 1 ∷ 2 ∷ 3 ∷ 4 ∷ 5 ∷ 6 ∷ 7 ∷ 10 ∷ 17 ∷ [])) tt tt tt tt tt tt tt tt tt tt
 
@@ -237,11 +242,13 @@ pub read-block-keeps : (reply : ℕ) (src : List ℕ) (channels : ℕ) (codes ta
     → (blockRead.codesAfter reply src channels codes ≡ codes) × (blockRead.tailsAfter reply src channels tails ≡ tails)
 read-block-keeps reply src channels codes tails n = (rw (ne-eqb reply 0 n), rw (ne-eqb reply 0 n))
 
-pub write-block-number : (r : Records) (channels : ℕ) (codes tails : List ℕ) (room : ℕ) → OneOf (0 ∷ 7 ∷ 8 ∷ 9 ∷ 10 ∷ 12 ∷ 13 ∷ 17 ∷ []) (blockWritten.blockReply r channels codes tails room)
+pub write-block-number : (r : Records) (channels : ℕ) (codes tails : List ℕ) (room : ℕ)
+    → OneOf (0 ∷ 7 ∷ 8 ∷ 9 ∷ 10 ∷ 12 ∷ 13 ∷ 17 ∷ []) (blockWritten.blockReply r channels codes tails room)
 unfolding among
 write-block-number = write-numbers (OneOf (0 ∷ 7 ∷ 8 ∷ 9 ∷ 10 ∷ 12 ∷ 13 ∷ 17 ∷ [])) tt tt tt tt tt tt tt tt
 
-pub write-block-keeps : (reply : ℕ) (r : Records) (channels : ℕ) (codes tails out : List ℕ) → (reply ≡ 0 → ⊥) → blockWritten.outAfter reply r channels codes tails out ≡ out
+pub write-block-keeps : (reply : ℕ) (r : Records) (channels : ℕ) (codes tails out : List ℕ) → (reply ≡ 0 → ⊥)
+    → blockWritten.outAfter reply r channels codes tails out ≡ out
 write-block-keeps reply r channels codes tails out n = rw (ne-eqb reply 0 n)
 
 -- any other answer than 0 is its number and zeros
@@ -259,7 +266,8 @@ pub check-blocks-number : (src : List ℕ) (channels booking : ℕ) → OneOf bl
 unfolding among checkAnswer
 check-blocks-number src channels booking =
     by-bool (isCount channels)
-    (λ t. rw t (number-one blockChecking tt tt tt tt tt tt tt tt tt (checkBlocks channels src booking .reply) (check-replies (block-lawful channels (counted channels t .0)) src booking)))
+    (λ t. rw t (number-one blockChecking tt tt tt tt tt tt tt tt tt (checkBlocks channels src booking .reply)
+    (check-replies (block-lawful channels (counted channels t .0)) src booking)))
     (λ t. rw t tt)
 
 -- ---- a channel taken out, recordings joined: 0, 2 to 7, 10, 15, 17
@@ -279,7 +287,8 @@ extract-number src channels channel room =
     (walk-number copying tt tt tt tt tt tt tt tt channels (among-told channels channel t .0) src)))
     (λ t. rw t tt)
 
-pub extract-keeps : (src : List ℕ) (channels channel : ℕ) (out : List ℕ) → (extractAnswer src channels channel (length out) .reply ≡ 0 → ⊥) → extractAfter src channels channel out ≡ out
+pub extract-keeps : (src : List ℕ) (channels channel : ℕ) (out : List ℕ) → (extractAnswer src channels channel (length out) .reply ≡ 0 → ⊥)
+    → extractAfter src channels channel out ≡ out
 extract-keeps src channels channel out n = rw (ne-eqb (extractAnswer src channels channel (length out) .reply) 0 n)
 
 refused-number : (src lengths : List ℕ) (n : ℕ) → OneOf copying (refusedIn (ownCheck src lengths) n .reply)
@@ -287,7 +296,8 @@ unfolding among refusedIn
 refused-number src lengths zero = tt
 refused-number src lengths (suc n) =
     picked (λ (c : Copied). OneOf copying (c .reply)) (eqb (refusedIn (ownCheck src lengths) n .reply) 0) _ _
-    (picked (λ (c : Copied). OneOf copying (c .reply)) (eqb (ownCheck src lengths n .reply) 0) _ _ tt (walk-number copying tt tt tt tt tt tt tt tt 1 (omega arith) (recordingAt src lengths n)))
+    (picked (λ (c : Copied). OneOf copying (c .reply)) (eqb (ownCheck src lengths n .reply) 0) _ _ tt
+    (walk-number copying tt tt tt tt tt tt tt tt 1 (omega arith) (recordingAt src lengths n)))
     (refused-number src lengths n)
 
 pub join-number : (src lengths : List ℕ) (room : ℕ) → OneOf copying (joinAnswer src lengths room .reply)
@@ -399,7 +409,8 @@ point-number rate index = picked (λ (a : Point). OneOf two (a .reply)) (owns ra
 
 pub index-number : (rate : ℕ) (point : List ℤ) → OneOf two (indexOf rate point .reply)
 unfolding among indexOf
-index-number rate point = picked (λ (a : Index). OneOf two (a .reply)) (owns rate && agree (Rattle.lattice.specs.Lattice.point (2 ^ rate) (back (2 ^ rate) point)) point 8) _ _ tt tt
+index-number rate point =
+    picked (λ (a : Index). OneOf two (a .reply)) (owns rate && agree (Rattle.lattice.specs.Lattice.point (2 ^ rate) (back (2 ^ rate) point)) point 8) _ _ tt tt
 
 pub row-point-number : (rate index : ℕ) → OneOf two (rowPoint rate index .reply)
 unfolding among rowPoint
@@ -497,7 +508,8 @@ layout-zeros r codes =
     let ks = kindsFor r in
     let vs = take 800 codes in
     picked PartsZeros (eqb (startReply r (length codes)) 0) _ _
-    (picked PartsZeros (fits (map coding ks) vs) _ _ (picked PartsZeros (ltb (budgetFor r) (codesLong ks vs)) _ _ (λ n. refl) (λ n. absurd (n refl))) (λ n. refl))
+    (picked PartsZeros (fits (map coding ks) vs) _ _ (picked PartsZeros (ltb (budgetFor r) (codesLong ks vs)) _ _ (λ n. refl) (λ n. absurd (n refl)))
+    (λ n. refl))
     (λ n. refl)
 
 -- legal norms

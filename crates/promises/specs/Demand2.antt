@@ -71,7 +71,8 @@ returned src codes tail out empty b e n z h = absurd (omega arith)
 returned src codes tail out (sound mode x) b e n z h =
     let w = write-back src codes tail mode x (length out) b e (omega arith) in (
       w .0,
-      ap (λ (l : List ℕ). l ++ drop (modeBytes mode + 1) out) (w .1 ∙ ap (λ (k : ℕ). take k (zeroR (getD src 0 0) ∷ drop 1 src)) (sym (add-one (modeBytes mode)))),
+      ap (λ (l : List ℕ). l ++ drop (modeBytes mode + 1) out) (w .1
+          ∙ ap (λ (k : ℕ). take k (zeroR (getD src 0 0) ∷ drop 1 src)) (sym (add-one (modeBytes mode)))),
     )
 
 pub written-back : (src codes tail out : List ℕ) → Bytes src → readingOf (readAnswer src (length codes) (length tail)) .reply ≡ 0
@@ -92,7 +93,8 @@ read-back r cs ts out codes tail l b hc ht z =
 -- ---- Nothing hollow: every record that obeys the rules is written, and every frame that obeys them is read
 
 -- Passed (writer/specs/Bodies) says the rules: mode, rooms, noise, norms, each code a word of its kind, Ψ kept, the tail's count and padding
-pub written-exactly : (r : Record) (cs ts : List ℕ) (room : ℕ) → (writeReply r cs ts room ≡ 0 → Passed r cs ts room) × (Passed r cs ts room → writeReply r cs ts room ≡ 0)
+pub written-exactly : (r : Record) (cs ts : List ℕ) (room : ℕ)
+    → (writeReply r cs ts room ≡ 0 → Passed r cs ts room) × (Passed r cs ts room → writeReply r cs ts room ≡ 0)
 written-exactly r cs ts room = (passed r cs ts room, writes r cs ts room)
 
 -- ---- What a caller needs to write or to use codes: the layout
@@ -113,7 +115,8 @@ withTail n r =
 
 -- the tail count that the layout gives is the one that is written: given room, noise that the kind of frame has, and a clear padding
 pub layout-writes : (r : Record) (cs ts : List ℕ) (room : ℕ) → layoutOf r cs .reply ≡ 0 → Roomy r (length cs) (length ts) room
-    → clear (view ts (layoutOf r cs .«tail_bits») (2560 - layoutOf r cs .«tail_bits»)) ≡ true → writeReply (withTail (layoutOf r cs .«tail_bits») r) cs ts room ≡ 0
+    → clear (view ts (layoutOf r cs .«tail_bits») (2560 - layoutOf r cs .«tail_bits»)) ≡ true
+    → writeReply (withTail (layoutOf r cs .«tail_bits») r) cs ts room ≡ 0
 unfolding layoutOf startReply
 layout-writes r cs ts room z R c =
     let n = layoutOf r cs .«tail_bits» in
@@ -122,22 +125,27 @@ layout-writes r cs ts room z R c =
     sym (reply-late w cs ts room _ _ refl (rooms-enough w (length cs) (length ts) room Q) (late-pad (layoutOf w cs) ts n z true refl c))
 
 -- and no other: whatever is written is laid out, with its own tail count
-pub written-laid-out : (r : Record) (cs ts : List ℕ) (room : ℕ) → writeReply r cs ts room ≡ 0 → layoutOf r cs ≡ partsWith (budgetFor r) (ratesFor r) (budgetFor r - r .«tail_bits»)
+pub written-laid-out : (r : Record) (cs ts : List ℕ) (room : ℕ) → writeReply r cs ts room ≡ 0
+    → layoutOf r cs ≡ partsWith (budgetFor r) (ratesFor r) (budgetFor r - r .«tail_bits»)
 written-laid-out r cs ts room z =
     let P = passed r cs ts room z in
     let k : codesLong (kindsFor r) (take 800 cs) ≡ budgetFor r - r .«tail_bits» = omega (arith, P .paid, P .count) in
-    laid-out r cs (record { start = record { mode = P .rooms .mode; codes = P .rooms .codes; norms = P .norms }; fit = all-fits _ (take 800 cs) (P .fit); paid = P .paid })
+    laid-out r cs
+    (record { start = record { mode = P .rooms .mode; codes = P .rooms .codes; norms = P .norms }; fit = all-fits _ (take 800 cs) (P .fit); paid = P .paid })
     ∙ ap (partsWith (budgetFor r) (ratesFor r)) k
 
--- the rates are those by which the 800 places are read and written (kinds, frame/specs/Kinds); codes and tail fill the budget
+-- the rates are those by which the 800 places are read and written (kinds/specs/Kinds); codes and tail fill the budget
 pub layout-kinds : (r : Record) (cs : List ℕ) → layoutOf r cs .reply ≡ 0
     → (kinds (r .«flag_c») (layoutOf r cs .rates) ≡ kindsFor r) × (layoutOf r cs .«code_bits» + layoutOf r cs .«tail_bits» ≡ layoutOf r cs .budget)
 unfolding kindsOf kindsAt
 layout-kinds r cs z =
     let L = laid-told r cs z in
     let e = laid-out r cs L in
-    let n = codesLong (kindsFor r) (take 800 cs) in
-    (ap (λ (p : Parts). kinds (r .«flag_c») (p .rates)) e, ap (λ (p : Parts). p .«code_bits» + p .«tail_bits») e ∙ (let q : n + (budgetFor r - n) ≡ budgetFor r = omega (arith, L .paid) in q) ∙ sym (ap (λ (p : Parts). p .budget) e))
+    let n = codesLong (kindsFor r) (take 800 cs) in (
+      ap (λ (p : Parts). kinds (r .«flag_c») (p .rates)) e,
+      ap (λ (p : Parts). p .«code_bits» + p .«tail_bits») e ∙ (let q : n + (budgetFor r - n) ≡ budgetFor r = omega (arith, L .paid) in q)
+          ∙ sym (ap (λ (p : Parts). p .budget) e),
+    )
 
 -- a frame by the rules (the codec `frame`, frame/specs/Layout) as long as its mode says, behind its prefix byte with any R and before anything
 pub read-exactly : (mode x : ℕ) (f : Frame) (rest : List ℕ) (codes tail : ℕ) → mode < 20 → x < 4 → frame (modeBytes mode * 8) .Ok f
@@ -150,7 +158,8 @@ read-exactly mode x f rest codes tail hm hx k l hc ht =
     let b = bytesOf n w in
     let src = byteWith 0 (mode + 8) x ∷ (b ++ rest) in
     let p : prefixOf src ≡ Data (record { 0 = mode + 8 }) =
-    read-some src (omega arith) ∙ r-ignored 0 (mode + 8) x 0 (omega arith) hx (omega arith) ∙ sym (read-some (byteWith 0 (mode + 8) 0 ∷ (b ++ rest)) (omega arith)) ∙ read-written mode (b ++ rest) hm in
+    read-some src (omega arith) ∙ r-ignored 0 (mode + 8) x 0 (omega arith) hx (omega arith)
+    ∙ sym (read-some (byteWith 0 (mode + 8) 0 ∷ (b ++ rest)) (omega arith)) ∙ read-written mode (b ++ rest) hm in
     let lb = length-bytes n w in
     let s : n < length src = omega (arith, length-append b rest, lb) in
     let e : mode + 8 - 8 ≡ mode = omega arith in
@@ -161,7 +170,8 @@ read-exactly mode x f rest codes tail hm hx k l hc ht =
     ∙ ap (outcome mode) (frame (n * 8) .back f [] k zero-le)
 
 -- With FlagC 0 there is neither 6 nor 7 in reading, nor 7 in writing: the allotment keeps to Ψ
-pub plain-read : (src : List ℕ) (codes tail x : ℕ) → getD (bitsOf (drop 1 src)) 3 false ≡ false → readAnswer src codes tail ≡ refused x → (x ≡ noWord → ⊥) × (x ≡ pastBudget → ⊥)
+pub plain-read : (src : List ℕ) (codes tail x : ℕ) → getD (bitsOf (drop 1 src)) 3 false ≡ false → readAnswer src codes tail ≡ refused x
+    → (x ≡ noWord → ⊥) × (x ≡ pastBudget → ⊥)
 plain-read = reading.plain-read
 
 pub plain-write : (r : Record) (cs ts : List ℕ) (room : ℕ) → r .«flag_c» ≡ false → length (r .norms) ≡ 44 → writeReply r cs ts room ≡ pastBudget → ⊥

@@ -1,4 +1,4 @@
--- What the check answers, number by number: each exactly when 01 says so, with the true count and place. Of frames and of blocks alike.
+-- What an answer of the check tells, of frames and of blocks alike: the true count and place, and the cause of its number.
 -- Assumes nothing.
 use mathlib.Core.Path.{_≡_}
 use mathlib.Core.List.{List, [], _++_}

@@ -1,4 +1,4 @@
--- Sound stored frames, one after the other: a frame reads the same whatever follows it, and a part of it is cut.
+-- Sound stored frames, one after the other.
 -- Assumes nothing.
 use mathlib.Core.Path.{_≡_}
 use mathlib.Core.List.{List, [], _∷_}

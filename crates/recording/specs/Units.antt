@@ -1,4 +1,4 @@
--- Sound units, one after the other: what a walk over any kind of unit answers of them, and what its answer tells.
+-- Sound units, one after the other, of any kind.
 -- Assumes nothing.
 use mathlib.Core.List.{List, [], _∷_, _++_}
 use Prim.Native.Nat.{ℕ, _+_}

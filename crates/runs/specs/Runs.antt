@@ -15,8 +15,6 @@ use Rattle.words.specs.declared.Word.the-variants.{At, No}
 use Rattle.runs.specs.declared.Run.{Run}
 use Rattle.runs.specs.declared.Run.the-variants as run
 
--- ---- definitions
-
 -- the words of the kinds, all before the end
 unfoldable pub runAt : List ℕ → ℕ → ℕ → List ℕ → Answer (List ℕ)
 runAt s at end kinds = readAll (map coding kinds) (view s at (end - at))

@@ -7,7 +7,8 @@ use lib.IntN.{pos, negsuc}
 use lib.ListN.{replicate}
 use Rattle.ground.specs.Fills.{from}
 use Rattle.weights.specs.Table17.{table17, rowAt, has, seek, rowOf}
-use Rattle.weights.specs.Weights.{loudness, sumOver, spe, bspe, forward, backward, renormed, largest, smallest, mapped, louds, spes, rowWeights, spread, weightsOf, score, scoresOf, weighed}
+use Rattle.weights.specs.Weights.{loudness, sumOver, spe, bspe, forward, backward, renormed, largest, smallest, mapped, louds, spes, rowWeights, spread}
+use Rattle.weights.specs.Weights.{weightsOf, score, scoresOf, weighed}
 use Rattle.ground.specs.Indices.{inRange}
 
 -- ★ stationary, index 0 in band 0, 20 elsewhere, as the call answers it; the scores are 16 × 34 and 16 × 14 with the weights added

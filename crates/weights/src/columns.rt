@@ -1,4 +1,4 @@
-// Table 17 by columns, as the code counts. proofs/Printed.antt holds each to the table as printed.
+// Table 17 by columns, as the code counts. proofs/Laws/Printed.antt holds each to the table as printed.
 
 // The first band of J_b.
 pub const FIRSTS: [usize; 20] = [

@@ -1,4 +1,4 @@
--- The look-up of a word: seven bits of a column to a word's number and length, and what that says of reading the word.
+-- The look-up that reading lends itself: seven bits of a column to a word's number and length.
 -- Assumes nothing.
 use mathlib.Core.List.{List, [], _∷_}
 use Prim.Native.Nat.{ℕ}

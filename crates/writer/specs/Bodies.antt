@@ -1,4 +1,4 @@
--- The bits of a body laid part after part, and the output that they make.
+-- The bits of a body, part after part.
 -- Assumes nothing.
 use mathlib.Core.Path.{_≡_}
 use mathlib.Core.Bool.{Bool, true}

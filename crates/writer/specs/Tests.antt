@@ -1,10 +1,8 @@
--- The tests of a record, and the laws of the loops that make them.
+-- Whether the noise is one that the kind of frame has.
 -- Assumes nothing.
 use mathlib.Core.Bool.{Bool, cond}
 use Prim.Native.Nat.{ℕ}
 use lib.Dec.{ltb, eqb}
-
--- ---- definitions
 
 -- 8: noise over 3, or nonzero in transient
 unfoldable pub quietOf : Bool → ℕ → Bool

@@ -29,11 +29,13 @@ use Rattle.allotment.specs.Allotment.{endOf, ratesOf, leftOf, sharesOf}
 -- ---- the answer, by the tests
 module _ (transient wide : Bool) (norms : List ℕ) (budget : ℕ) where
   pub shares-yes : inRange norms 44 ≡ true → budget ≤ 2560
-      → _≡_ {A = Shares} (record { reply = done; rates = ratesOf transient wide norms budget; left = leftOf transient wide norms budget }) (sharesOf transient wide norms budget)
+      → _≡_ {A = Shares} (record { reply = done; rates = ratesOf transient wide norms budget; left = leftOf transient wide norms budget })
+      (sharesOf transient wide norms budget)
   unfolding sharesOf
   shares-yes t h = rw (t, le-leb budget 2560 h)
 
-  pub shares-norm : inRange norms 44 ≡ false → _≡_ {A = Shares} (record { reply = outOfRange; rates = replicate 44 0; left = 0 }) (sharesOf transient wide norms budget)
+  pub shares-norm : inRange norms 44 ≡ false
+      → _≡_ {A = Shares} (record { reply = outOfRange; rates = replicate 44 0; left = 0 }) (sharesOf transient wide norms budget)
   unfolding sharesOf
   shares-norm t = rw t
 
@@ -54,7 +56,8 @@ module _ (transient : Bool) (norms : List ℕ) (low : (p : ℕ) → p < 44 → n
   unfolding scoresOf raisedAt
   heights =
       record {
-        raised = λ p h. rw (getD-table (λ p. score (nth norms p) (nth (weightsOf transient norms) p)) 44 (pos 0) p h) (score-is (nth norms p) (nth (weightsOf transient norms) p) (low p h));
+        raised = λ p h. rw (getD-table (λ p. score (nth norms p) (nth (weightsOf transient norms) p)) 44 (pos 0) p h)
+            (score-is (nth norms p) (nth (weightsOf transient norms) p) (low p h));
         room = λ p h. omega (arith, low p h);
       }
 
@@ -75,8 +78,9 @@ module _ (transient wide : Bool) (norms : List ℕ) (budget : ℕ) (low : (p : �
   rates-sum = fair transient norms low wide budget .sum
 
 -- ---- what the code reaches
-pub heights-room : (norms ws hs : List ℕ) → inRange norms 44 ≡ true → ((k : ℕ) → nth ws k ≤ 64) → hs ≡ table 44 (λ p. 912 - 16 * nth norms p + nth ws p) → Room hs
-heights-room norms ws hs t b e p h =
+pub heights-room : (norms ws hs : List ℕ) → hs ≡ table 44 (λ p. 912 - 16 * nth norms p + nth ws p) → ((k : ℕ) → nth ws k ≤ 64) → inRange norms 44 ≡ true
+    → Room hs
+heights-room norms ws hs e b t p h =
     rw (e, getD-table (λ p. 912 - 16 * nth norms p + nth ws p) 44 0 p h) (omega (arith, range-at norms 44 t p h), omega (arith, range-at norms 44 t p h, b p))
 
 module _ (transient wide : Bool) (norms : List ℕ) (budget : ℕ) (ws hs : List ℕ) (t : inRange norms 44 ≡ true) (ew : ws ≡ weightsOf transient norms)

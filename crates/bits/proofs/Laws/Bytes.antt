@@ -59,7 +59,8 @@ view-bits (b ∷ s) =
 pub view-part : (s : List ℕ) (p n : ℕ) → p + n ≤ length s * 8 → view s p n ≡ take n (drop p (bitsOf s))
 view-part s p n h =
     sym (take-view s p n (length s * 8 - p) (omega arith))
-    ∙ ap (take n) (ap (λ (x : ℕ). view s x (length s * 8 - p)) (sym (zero-add p)) ∙ sym (drop-view s 0 p (length s * 8) (omega arith)) ∙ ap (drop p) (view-bits s))
+    ∙ ap (take n) (ap (λ (x : ℕ). view s x (length s * 8 - p)) (sym (zero-add p)) ∙ sym (drop-view s 0 p (length s * 8) (omega arith))
+    ∙ ap (drop p) (view-bits s))
 
 -- bytes with the same bits are the same
 pub same-bits : (s t : List ℕ) → Bytes s → Bytes t → length s ≡ length t → bitsOf s ≡ bitsOf t → s ≡ t

@@ -65,7 +65,8 @@ pub found-fine : (t u : List (List Bool)) (b : List Bool) (v : ℕ) (r : List Bo
 unfolding unword
 found-fine t u b v r e h = rw (e, lt-ltb v (length t) h)
 
-pub found-refused : (t u : List (List Bool)) (b : List Bool) (v : ℕ) (r : List Bool) → find (t ++ u) 0 b ≡ got v r → length t ≤ v → unword (prefix t u) b ≡ no Missing
+pub found-refused : (t u : List (List Bool)) (b : List Bool) (v : ℕ) (r : List Bool) → find (t ++ u) 0 b ≡ got v r → length t ≤ v
+    → unword (prefix t u) b ≡ no Missing
 unfolding unword
 found-refused t u b v r e h = rw (e, le-ltb v (length t) h)
 

@@ -4,7 +4,7 @@
 use mathlib.Core.Path.{_≡_, refl, sym, ap, ap₂, _∙_}
 use mathlib.Core.Bool.{Bool, false}
 use mathlib.Core.List.{List, [], _∷_, _++_, append-assoc}
-use Prim.Native.Nat.{ℕ, zero, suc, _+_, _-_, _*_, _/_, _%_, _^_, _≤_, _<_}
+use Prim.Native.Nat.{ℕ, zero, suc, _+_, _-_, _*_, _/_, _%_, _^_, _≤_, _<_, min}
 use native.Mathlib.Nat.{add-zero, zero-add, suc-add, add-suc, add-assoc, mod-eq-of-lt, mod-lt, div-mul-le-self, lt-of-lt-of-le}
 use native.Mathlib.Omega.{arith}
 use native.Mathlib.Decide.{ℕ-discrete, decLt}
@@ -204,7 +204,8 @@ laid-behind x s n w b h l m =
     ∙ ap (λ (k : ℕ). w ++ drop k (bitsOf s)) z
     ∙ ap₂ (λ (u v : List Bool). u ++ v) (sym (bits-bytes n w l)) (bits-drop n s)
     ∙ sym (bits-append (bytesOf n w) (drop n s))) in
-    same-bits (laid (x ∷ s) 8 w) (x ∷ t) (bytes-laid (x ∷ s) 8 w) (bytes-cons x t b (bytes-append (bytesOf n w) (drop n s) (bytes-made n w) (bytes-drop n s h))) long bits
+    same-bits (laid (x ∷ s) 8 w) (x ∷ t) (bytes-laid (x ∷ s) 8 w)
+    (bytes-cons x t b (bytes-append (bytesOf n w) (drop n s) (bytes-made n w) (bytes-drop n s h))) long bits
 
 -- ---- three bytes changed as one number
 
@@ -222,7 +223,8 @@ window-bits s i x =
     omega (arith, length-append a b, length-word 8 (x / 65536 % 256), length-word 8 (x / 256 % 256)) in
     let whole : (a ++ b) ++ c ≡ word 24 x =
     append-assoc a b c
-    ∙ ap₂ (λ (y z : List Bool). y ++ z) (word-mod 8 (x / 65536)) (ap₂ (λ (y z : List Bool). y ++ z) (word-mod 8 (x / 256)) (word-mod 8 x) ∙ sym (word-add 8 8 x))
+    ∙ ap₂ (λ (y z : List Bool). y ++ z) (word-mod 8 (x / 65536)) (ap₂ (λ (y z : List Bool). y ++ z) (word-mod 8 (x / 256)) (word-mod 8 x)
+    ∙ sym (word-add 8 8 x))
     ∙ sym (word-add 8 16 x) in
     bits-set s₂ (i + 2) (x % 256)
     ∙ ap₂ (λ (l : List Bool) (k : ℕ). sets l k c)
@@ -295,7 +297,8 @@ module _ (s : List ℕ) (p n v : ℕ) (few : n ≤ 16) where
       let h = 24 - p % 8 in
       let l = 24 - p % 8 - n in
       let u = v % 2 ^ n in
-      let e₁ : w / 2 ^ h * 2 ^ h % 2 ^ 64 ≡ val before * 2 ^ h = mod-eq-of-lt (omega (arith, div-mul-le-self w (2 ^ h), w-lt)) ∙ ap (λ (z : ℕ). z * 2 ^ h) above in
+      let e₁ : w / 2 ^ h * 2 ^ h % 2 ^ 64 ≡ val before * 2 ^ h = mod-eq-of-lt (omega (arith, div-mul-le-self w (2 ^ h), w-lt))
+      ∙ ap (λ (z : ℕ). z * 2 ^ h) above in
       let e₂ : v % (1 * 2 ^ n % 2 ^ 64) * 2 ^ l % 2 ^ 64 ≡ u * 2 ^ l =
       ap (λ (z : ℕ). v % z * 2 ^ l % 2 ^ 64) (shifted-one n (omega arith)) ∙ shl-exact n l 64 (mod-lt v (pow-pos n)) (omega arith) in
       let e₃ : w % (1 * 2 ^ l % 2 ^ 64) ≡ val after = ap (λ (z : ℕ). w % z) (shifted-one l (omega arith)) ∙ below in
@@ -332,8 +335,20 @@ module _ (s : List ℕ) (p n v : ℕ) (few : n ≤ 16) where
       let s₂ = set s₁ (p / 8 + 1) (x / 256 % 256) in
       let t = set s₂ (p / 8 + 2) (x % 256) in
       let bytes : Bytes t =
-      bytes-set s₂ (p / 8 + 2) (x % 256) (bytes-set s₁ (p / 8 + 1) (x / 256 % 256) (bytes-set s (p / 8) (x / 65536 % 256) h (omega arith)) (omega arith)) (omega arith) in
-      let long : length t ≡ length s = length-set s₂ (p / 8 + 2) (x % 256) ∙ length-set s₁ (p / 8 + 1) (x / 256 % 256) ∙ length-set s (p / 8) (x / 65536 % 256) in
+      bytes-set s₂ (p / 8 + 2) (x % 256) (bytes-set s₁ (p / 8 + 1) (x / 256 % 256) (bytes-set s (p / 8) (x / 65536 % 256) h (omega arith)) (omega arith))
+      (omega arith) in
+      let long : length t ≡ length s = length-set s₂ (p / 8 + 2) (x % 256) ∙ length-set s₁ (p / 8 + 1) (x / 256 % 256)
+      ∙ length-set s (p / 8) (x / 65536 % 256) in
       let bits : word 24 x ≡ new = ap (word 24) (e ∙ made-new) ∙ (rw length-new at (word-val new)) in
       sym (bytes-bits t bytes)
       ∙ ap₂ bytesOf long (window-bits s (p / 8) x ∙ ap (sets (bitsOf s) (p / 8 * 8)) bits ∙ sets-new)
+
+-- the same from what the code has: the width, at most 16, and the window's number
+module _ (s : List ℕ) (p k v : ℕ) {n w : ℕ} (few : n ≡ min k 16) (e : w ≡ val (view s (p / 8 * 8) 24)) where
+  pub window-small : made w (24 - p % 8) (24 - p % 8 - n) n v < 16777216
+  window-small = rw e (made-lt s p n v (omega (arith, few)))
+
+  pub window-laid : {t : List ℕ} → Bytes s → (let x = made w (24 - p % 8) (24 - p % 8 - n) n v in
+      t ≡ set (set (set s (p / 8) (x / 65536 % 256)) (p / 8 + 1) (x / 256 % 256)) (p / 8 + 2) (x % 256)) → t ≡ laid s p (word (min k 16) v)
+  window-laid h q =
+      q ∙ made-laid s p n v (omega (arith, few)) h _ (ap (λ (z : ℕ). made z (24 - p % 8) (24 - p % 8 - n) n v) e) ∙ ap (λ (j : ℕ). laid s p (word j v)) few

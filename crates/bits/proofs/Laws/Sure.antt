@@ -70,7 +70,8 @@ SureAll [] (c ∷ cs) = ⊥
 SureAll (n ∷ ns) [] = ⊥
 SureAll (n ∷ ns) (c ∷ cs) = Sure n c × SureAll ns cs
 
-pub read-sure : (ns : List ℕ) (cs : List Coding) → SureAll ns cs → (b : List Bool) → sumOf ns ≤ length b → (vs : List ℕ) × (r : List Bool) × (readAll cs b ≡ got vs r)
+pub read-sure : (ns : List ℕ) (cs : List Coding) → SureAll ns cs → (b : List Bool) → sumOf ns ≤ length b
+    → (vs : List ℕ) × (r : List Bool) × (readAll cs b ≡ got vs r)
 unfolding readAll sumOf
 read-sure [] [] s b h = ([], b, refl)
 read-sure [] (c ∷ cs) s b h = absurd s

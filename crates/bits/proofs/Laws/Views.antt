@@ -3,10 +3,11 @@
 use mathlib.Core.Path.{_≡_, refl, sym, ap, ap₂, _∙_}
 use mathlib.Core.Bool.{Bool, false}
 use mathlib.Core.List.{List, _∷_, _++_}
-use Prim.Native.Nat.{ℕ, zero, suc, _+_, _-_, _*_, _/_, _%_, _^_, _≤_, _<_}
-use native.Mathlib.Nat.{add-zero, add-suc, suc-add, zero-add, mod-eq-of-lt, zero-div}
+use Prim.Native.Nat.{ℕ, zero, suc, _+_, _-_, _*_, _/_, _%_, _^_, _≤_, _<_, min}
+use native.Mathlib.Nat.{add-zero, add-suc, suc-add, zero-add, mod-eq-of-lt, lt-of-lt-of-le, zero-div}
 use native.Mathlib.Omega.{arith}
 use lib.ListN.{length, getD, take, drop, replicate, length-append, List·getD-eq-default}
+use lib.Pow.{pow-mono}
 use lib.Seq.{take-at, drop-at}
 use Rattle.bits.specs.Bits.{odd, word, val, bit, view}
 use Rattle.bits.specs.Numbers.{val-lt, val-word}
@@ -102,6 +103,15 @@ view-window s p n h =
     (ap (view s i) e ∙ view-add s i (k + n) m ∙ ap (λ (z : List Bool). z ++ view s (i + (k + n)) m) (view-add s i k n))
     ∙ (simp length-view at (val-middle (view s i k) (view s (i + k) n) (view s (i + (k + n)) m)))
     ∙ ap (λ (z : ℕ). val (view s z n)) q
+
+-- the same from what the code has: the width, at most 16, and the window's number
+pub window-read : (s : List ℕ) (p k : ℕ) {n w : ℕ} → n ≡ min k 16 → w ≡ val (view s (p / 8 * 8) 24)
+    → w / 2 ^ (24 - p % 8 - n) % (1 * 2 ^ n % 2 ^ 64) ≡ val (view s p (min k 16))
+window-read s p k {n} few e =
+    ap (λ (w : ℕ). w / 2 ^ (24 - p % 8 - n) % (1 * 2 ^ n % 2 ^ 64)) e ∙ view-window s p n (omega (arith, few)) ∙ ap (λ (j : ℕ). val (view s p j)) few
+
+pub read-lt : {z : ℕ} (s : List ℕ) (p k : ℕ) → z ≡ val (view s p (min k 16)) → z < 65536
+read-lt s p k e = rw e (lt-of-lt-of-le (view-lt s p (min k 16)) (pow-mono {j = 16} (omega arith)))
 
 -- what follows some bits at a place stands behind them
 pub view-rest : (s : List ℕ) (p n : ℕ) (w r : List Bool) → view s p n ≡ w ++ r

@@ -1,5 +1,4 @@
--- `bits::byte_at` meets its contract: within the slice its rule bounds the byte, past the end the default is 0.
--- Assumes nothing.
+-- `bits::byte_at` meets its contract: within the slice its rule bounds the byte, past the end the default is 0. Assumes nothing.
 use borrow.Author.Needs.{needs}
 use native.Mathlib.Omega.{arith}
 use mathlib.Core.Path.{sym, refl}
@@ -8,17 +7,11 @@ use lib.ListN.{List·getD-eq-default}
 use Rattle.bits.proofs.byte_at.Statement.{statement}
 use Rattle.bits.proofs.byte_at.Tie as tie
 
-shared-slice-read-result : tie.Need-shared-slice-read-result
-shared-slice-read-result c = search needs
-
-cast-result : tie.Need-cast-result
-cast-result c = omega (arith, c .shared-slice-known .given (c .before .before .args .i))
-
-returns : tie.Need-returns
-returns c = (refl, omega (arith, c .shared-slice-known .given (c .before .before .args .i)))
-
-returns-2 : tie.Need-returns-2
-returns-2 c = (sym (List·getD-eq-default (now (c .before .args .s)) 0 (c .if1 .left)), omega arith)
-
 pub byte-at-spec : {M : Type 1} → statement M
-byte-at-spec = tie.close (tie.spec shared-slice-read-result cast-result returns returns-2)
+byte-at-spec =
+    tie.close
+    (tie.spec
+    (λ c. search needs)
+    (λ c. let a : tie.Start = search in omega (arith, c .shared-slice-known .given (a .args .i)))
+    (λ c. let a : tie.Start = search in (refl, omega (arith, c .shared-slice-known .given (a .args .i))))
+    (λ c. (sym (List·getD-eq-default (now (c .before .args .s)) 0 (c .if1 .left)), omega arith)))

@@ -49,7 +49,8 @@ reply-rooms s {n} {codes} {tails} z =
 
 -- ---- the turns: the frames of the channels below c are read, each into its own part
 
-pub record Taken (src : List ℕ) (n : ℕ) (codes₀ tails₀ : List ℕ) (frames₀ : List Reading) (codes tails : List ℕ) (frames : List Reading) (at c : ℕ) : Type 0 where
+pub record Taken (src : List ℕ) (n : ℕ) (codes₀ tails₀ : List ℕ) (frames₀ : List Reading) (codes tails : List ℕ) (frames : List Reading)
+    (at c : ℕ) : Type 0 where
   pub few : c ≤ n
   pub place : at ≡ placeOf src c
   pub readings : Fronted (λ k. readingOf (channelAt src k)) frames₀ frames c
@@ -65,7 +66,8 @@ here : (src : List ℕ) (at : ℕ) (cs ts : List ℕ) → length cs ≡ 800 → 
 unfolding storedAt
 here src at cs ts a b = ap (λ (s : List ℕ). readAnswer s (length cs) (length ts)) (lent src at) ∙ ap₂ (λ (k i : ℕ). readAnswer (drop at src) k i) a b
 
-module _ {src : List ℕ} {n : ℕ} {codes₀ tails₀ codes tails : List ℕ} {frames₀ frames : List Reading} {at c : ℕ} (p : Taken src n codes₀ tails₀ frames₀ codes tails frames at c) where
+module _ {src : List ℕ} {n : ℕ} {codes₀ tails₀ codes tails : List ℕ} {frames₀ frames : List Reading} {at c : ℕ}
+    (p : Taken src n codes₀ tails₀ frames₀ codes tails frames at c) where
   -- every place lies inside the source
   pub taken-inside : at ≤ length src
   taken-inside = omega (arith, p .place, place-inside src 0 c (omega arith))

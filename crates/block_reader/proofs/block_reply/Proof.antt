@@ -1,4 +1,4 @@
--- `blocks::reading::block_reply` meets its contract: the rooms first, then the frames. Assumes nothing.
+-- `block_reader::block_reply` meets its contract: the rooms first, then the frames. Assumes nothing.
 use borrow.Author.Needs.{needs}
 use native.Mathlib.Omega.{arith}
 use Rattle.block_reader.proofs.Laws.Reading.{reply-early, reply-frames}

@@ -1,4 +1,4 @@
--- `blocks::reading::read_block` meets its contract: the reply first, and only on 0 are the frames read. Assumes nothing.
+-- `block_reader::read_block` meets its contract: the reply first, and only on 0 are the frames read. Assumes nothing.
 use borrow.Author.Needs.{needs}
 use denote.Ref.{now}
 use mathlib.Core.Path.{_≡_, _∙_, sym}

@@ -1,4 +1,4 @@
--- `blocks::reading::refusal` meets its contract: the reply, and eight times no reading. Assumes nothing.
+-- `block_reader::refusal` meets its contract: the reply, and eight times no reading. Assumes nothing.
 use borrow.Author.Needs.{needs}
 use lib.ListN.{replicate}
 use mathlib.Core.Path.{ap}

@@ -1,4 +1,4 @@
--- `blocks::reading::take_block` meets its contract: each turn reads one channel's frame into its own parts of the lent memory.
+-- `block_reader::take_block` meets its contract: each turn reads one channel's frame into its own parts of the lent memory.
 -- Assumes nothing.
 use Prim.Native.Nat.{_+_, _*_, _-_}
 use borrow.Author.Needs.{needs}
@@ -20,7 +20,9 @@ loop-again c =
     let r : tie.After-read Inv-loop μ-loop = search in
     let l : tie.At-loop Inv-loop μ-loop = search in
     let a : tie.Start Inv-loop μ-loop = search in
-    taken-more (l .loop .inv) (search needs) (a .pre .1) (a .pre .2) {m = l .loop .c * 800 + 800 - l .loop .c * 800} {j = l .loop .c * 320 + 320 - l .loop .c * 320} (a .pre .0) refl (omega arith) (omega arith) refl refl (r .read .ensures .0) (r .read .ensures .1) (r .read .ensures .2) (search needs) (search needs) (z .size-at .ensures)
+    taken-more (l .loop .inv) (search needs) (a .pre .1)
+    (a .pre .2) {m = l .loop .c * 800 + 800 - l .loop .c * 800} {j = l .loop .c * 320 + 320 - l .loop .c * 320} (a .pre .0) refl (omega arith)
+    (omega arith) refl refl (r .read .ensures .0) (r .read .ensures .1) (r .read .ensures .2) (search needs) (search needs) (z .size-at .ensures)
 
 returns : tie.Need-returns Inv-loop μ-loop
 returns c =

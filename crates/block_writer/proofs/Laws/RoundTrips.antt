@@ -84,7 +84,8 @@ module _ {A : Type 0} (k : ℕ) (f : ℕ → List A) where
       ap (λ (i : ℕ). runs i f ++ rest) e ∙ ap (λ (x : List A). x ++ rest) (runs-add f c (suc m) ∙ ap (λ (x : List A). runs c f ++ x) (runs-front g m))
       ∙ append-assoc (runs c f) (g 0 ++ runs m (λ j. g (suc j))) rest
       ∙ ap (λ (x : List A). runs c f ++ x) (append-assoc (g 0) (runs m (λ j. g (suc j))) rest ∙ ap (λ (i : ℕ). f i ++ t) (add-zero c)) in
-      ap (λ (x : List A). part k x c) q ∙ ap (take k) (drop-at (runs c f) (f c ++ t) (c * k) (runs-long c (λ j d. h j (omega arith)))) ∙ take-at (f c) t k (h c b)
+      ap (λ (x : List A). part k x c) q ∙ ap (take k) (drop-at (runs c f) (f c ++ t) (c * k) (runs-long c (λ j d. h j (omega arith))))
+      ∙ take-at (f c) t k (h c b)
 
   parts-long : (n : ℕ) (l : List A) → ((j : ℕ) → j < n → length (f j) ≡ k) → n * k ≤ length l → length (runs n f ++ drop (n * k) l) ≡ length l
   parts-long n l h b = length-append (runs n f) (drop (n * k) l) ∙ omega (arith, runs-long n h, length-drop (n * k) l)
@@ -115,7 +116,8 @@ module _ (f : List ℕ) (a : Stored f) where
       go : Stored f → length (frame.codesAfter cs (storedAt f)) ≡ 800
       go (bare e n) = ap (λ (o : Outcome). length (frame.codesAfter cs o)) e ∙ l
       go (full m x e n) =
-          ap (λ (o : Outcome). length (frame.codesAfter cs o)) e ∙ length-append (x .1 .1 .0) (drop 800 cs) ∙ omega (arith, sound-codes f m x e, length-drop 800 cs)
+          ap (λ (o : Outcome). length (frame.codesAfter cs o)) e ∙ length-append (x .1 .1 .0) (drop 800 cs)
+          ∙ omega (arith, sound-codes f m x e, length-drop 800 cs)
 
   tail-long : (ts : List ℕ) → length ts ≡ 320 → length (frame.tailAfter ts (storedAt f)) ≡ 320
   unfolding tailBytes
@@ -142,7 +144,8 @@ Returns f r w cs ts = (frameReply r w cs ts ≡ 0) × (frameOf r w cs ts ≡ zer
 abbrev Returned : List ℕ → List ℕ → List ℕ → Outcome → Type 0
 Returned f cs ts o = Returns f (readingOf o .«record») (eqb (readingOf o .reply) noData) (frame.codesAfter cs o) (frame.tailAfter ts o)
 
-returns-as : (f : List ℕ) (r r′ : Record) (w w′ : Bool) (cs cs′ ts ts′ : List ℕ) → r ≡ r′ → w ≡ w′ → cs ≡ cs′ → ts ≡ ts′ → Returns f r′ w′ cs′ ts′ → Returns f r w cs ts
+returns-as : (f : List ℕ) (r r′ : Record) (w w′ : Bool) (cs cs′ ts ts′ : List ℕ) → r ≡ r′ → w ≡ w′ → cs ≡ cs′ → ts ≡ ts′ → Returns f r′ w′ cs′ ts′
+    → Returns f r w cs ts
 returns-as f r r′ w w′ cs cs′ ts ts′ er ew ec et h =
     subst (λ (x : Record). Returns f x w cs ts) (sym er)
     (subst (λ (x : Bool). Returns f r′ x cs ts) (sym ew)
@@ -255,7 +258,8 @@ zeroed-long : (f : List ℕ) → length (zeroed f) ≡ length f
 zeroed-long [] = refl
 zeroed-long (b ∷ f) = refl
 
--- the records, codes and tails that were read from a block, written: reply 0 wherever the block's bytes have room, and the block with R zero in its prefix bytes
+-- the records, codes and tails that were read from a block, written: reply 0 wherever the block's bytes have room, and the block with R zero in its prefix
+-- bytes
 pub record WrittenBack (s : List ℕ) (n : ℕ) (codes tails : List ℕ) : Type 0 where
   pub reply : (room : ℕ) → placeOf s n ≤ room → writing.blockReply (recordsOf s n) n (codesOf s n codes) (tailsOf s n tails) room ≡ 0
   pub bytes : blockBytes (recordsOf s n) n (codesOf s n codes) (tailsOf s n tails) ≡ runs n (λ c. zeroed (frameAt s c))
@@ -372,7 +376,8 @@ module _ (r : Record) (cs ts codes tail : List ℕ) (lc : length cs ≡ 800) (lt
       let f = bytesFor r cs ts in
       let P = passed r cs ts 321 z in
       let n : f ++ [] ≡ f = append-nil f in
-      let e : storedAt f ≡ sound (r .mode) (writer.frameOf r cs ts) = ap storedAt (sym n) ∙ readback.answer-back r cs ts 321 l P [] 800 320 (omega arith) (omega arith) in
+      let e : storedAt f ≡ sound (r .mode) (writer.frameOf r cs ts) = ap storedAt (sym n)
+      ∙ readback.answer-back r cs ts 321 l P [] 800 320 (omega arith) (omega arith) in
       let q : storedAt f ≡ readAnswer (f ++ []) (length codes) (length tail) = ap storedAt (sym n) ∙ ap₂ (readAnswer (f ++ [])) (sym mc) (sym mt) in
       let w = readback.read-back r cs ts 321 l P [] codes tail (bytes-take 320 ts b) (omega arith) (omega arith) in
       record {

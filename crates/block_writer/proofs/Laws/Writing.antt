@@ -28,7 +28,8 @@ use Rattle.writer.specs.Writes as writer
 use Rattle.writer.specs.Writes.{writeReply, writingOf, bytesFor}
 use Rattle.writer.proofs.Laws.Writes.{reply-roomy}
 use Rattle.writer.specs.declared.Writing.{Writing}
-use Rattle.block_writer.specs.Writing.{recordAt, emptyAt, frameReply, frameOf, replyAt, bytesAt, framesReply, blockBytes, blockReply, blockAnswer, outAfter}
+use Rattle.block_writer.specs.Writing.{recordAt, emptyAt, frameReply, frameOf, replyAt, bytesAt, framesReply, blockBytes, blockReply, blockAnswer}
+use Rattle.block_writer.specs.Writing.{outAfter}
 use Rattle.block_writer.specs.Inner.{frameBytes}
 use Rattle.frames.specs.Rooms.{roomReply}
 use Rattle.block_writer.specs.declared.Records.{Records}
@@ -122,7 +123,8 @@ module _ (r : Records) (cs ts : List ℕ) where
   pub block-long : (n : ℕ) → length (blockBytes r n cs ts) ≡ sumTo (λ c. frameBytes (recordAt r c) (emptyAt r c)) n
   block-long n =
       length-runs (bytesAt r cs ts) n
-      ∙ sum-same (λ c. length (bytesAt r cs ts c)) (λ c. frameBytes (recordAt r c) (emptyAt r c)) n (λ c h. length-frame (recordAt r c) (emptyAt r c) (part 800 cs c) (part 320 ts c))
+      ∙ sum-same (λ c. length (bytesAt r cs ts c)) (λ c. frameBytes (recordAt r c) (emptyAt r c)) n
+      (λ c h. length-frame (recordAt r c) (emptyAt r c) (part 800 cs c) (part 320 ts c))
 
   -- each frame stands within the block
   pub frame-inside : (c n : ℕ) → c < n → length (blockBytes r c cs ts) + frameBytes (recordAt r c) (emptyAt r c) ≤ length (blockBytes r n cs ts)
@@ -239,7 +241,8 @@ module _ {r : Records} {n : ℕ} {cs ts : List ℕ} {out₀ out : List ℕ} {at 
 
   -- and is laid
   pub frame-laid : (m j k : ℕ) (ys : List ℕ) → m ≡ 800 → j ≡ 320 → k ≡ frameBytes (recordAt r c) (emptyAt r c)
-      → ys ≡ frameOf (recordAt r c) (emptyAt r c) (take m (drop (c * 800) cs)) (take j (drop (c * 320) ts)) ++ drop (frameBytes (recordAt r c) (emptyAt r c)) (take (length out - at) (drop at out))
+      → ys ≡ frameOf (recordAt r c) (emptyAt r c) (take m (drop (c * 800) cs)) (take j (drop (c * 320) ts)) ++ drop (frameBytes (recordAt r c) (emptyAt r c))
+      (take (length out - at) (drop at out))
       → Laid (bytesAt r cs ts) out₀ (backed out at (length out - at) ys) (at + k) (c + 1)
   frame-laid m j k ys em ej ek ey =
       let g = recordAt r c in

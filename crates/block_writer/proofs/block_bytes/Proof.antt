@@ -1,4 +1,4 @@
--- `blocks::writing::block_bytes` meets its contract: each turn adds one frame's bytes. Assumes nothing.
+-- `block_writer::block_bytes` meets its contract: each turn adds one frame's bytes. Assumes nothing.
 use Prim.Native.Nat.{_*_, _-_, _≤_}
 use borrow.Author.Needs.{needs}
 use mathlib.Core.Path.{_≡_, _∙_, sym, ap}

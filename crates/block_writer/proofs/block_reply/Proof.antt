@@ -1,4 +1,4 @@
--- `blocks::writing::block_reply` meets its contract: the rooms, the frames' causes, and last the output. Assumes nothing.
+-- `block_writer::block_reply` meets its contract: the rooms, the frames' causes, and last the output. Assumes nothing.
 use borrow.Author.Needs.{needs}
 use denote.Ref.{now}
 use lib.ListN.{length}
@@ -21,13 +21,9 @@ frames e = let f : tie.After-frames-reply = search in sym (f .frames-reply .ensu
 
 frames-reply-requires : tie.Need-frames-reply-requires
 frames-reply-requires c κs =
-    let r : let a : tie.Start = search in Roomy (a .args .channels) (length (now (a .args .codes))) (length (now (a .args .tails))) = rooms-told (rooms (search)) in
+    let r : let a : tie.Start = search in Roomy (a .args .channels) (length (now (a .args .codes))) (length (now (a .args .tails))) = rooms-told
+    (rooms (search)) in
     (r .few, r .numbers, r .bytes)
-
-returns-2 : tie.Need-returns-2
-returns-2 c =
-    let f : tie.After-frames-reply = search in
-    block-late _ _ _ _ _ (rooms (search)) (f .frames-reply .ensures) (search)
 
 returns-3 : tie.Need-returns-3
 returns-3 c =
@@ -50,7 +46,7 @@ block-reply-spec =
     (λ c κs. search needs)
     (λ c. search block-early)
     frames-reply-requires
-    returns-2
+    (λ c. search (block-late, sym, _∙_))
     (λ c κs. rooms-told (rooms (search)) .few)
     returns-3
     returns-4)

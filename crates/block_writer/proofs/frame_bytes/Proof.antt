@@ -1,4 +1,4 @@
--- `blocks::writing::frame_bytes` meets its contract. Assumes nothing.
+-- `block_writer::frame_bytes` meets its contract. Assumes nothing.
 use borrow.Author.Needs.{needs}
 use Rattle.block_writer.proofs.Laws.Writing.{full-bytes}
 use Rattle.block_writer.proofs.frame_bytes.Statement.{statement}

@@ -1,4 +1,4 @@
--- `blocks::writing::frame_reply` meets its contract. Assumes nothing.
+-- `block_writer::frame_reply` meets its contract. Assumes nothing.
 use borrow.Author.Needs.{needs}
 use Rattle.block_writer.proofs.Laws.Writing.{full-reply}
 use Rattle.block_writer.proofs.frame_reply.Statement.{statement}

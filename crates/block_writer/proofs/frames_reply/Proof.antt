@@ -1,4 +1,4 @@
--- `blocks::writing::frames_reply` meets its contract: each turn tries one frame, and a cause stays. Assumes nothing.
+-- `block_writer::frames_reply` meets its contract: each turn tries one frame, and a cause stays. Assumes nothing.
 use Prim.Native.Nat.{_+_, _*_, _-_, _≤_}
 use borrow.Author.Needs.{needs}
 use denote.Ref.{now}
@@ -23,7 +23,8 @@ decides w =
     let a : tie.Start Inv-loop μ-loop = search in
     let r = a .args .records in
     let k = l .loop .c in
-    part-reply (recordAt r k) (emptyAt r k) (now (a .args .codes)) (now (a .args .tails)) k (k * 800 + 800 - k * 800) (k * 320 + 320 - k * 320) (omega arith) (omega arith) (w .frame-reply .ensures)
+    part-reply (recordAt r k) (emptyAt r k) (now (a .args .codes)) (now (a .args .tails)) k (k * 800 + 800 - k * 800) (k * 320 + 320 - k * 320) (omega arith)
+    (omega arith) (w .frame-reply .ensures)
     ∙ sym (frames-next r (now (a .args .codes)) (now (a .args .tails)) k (l .loop .inv .1))
 
 returns : tie.Need-returns Inv-loop μ-loop
@@ -32,7 +33,8 @@ returns c =
     let l : tie.At-loop Inv-loop μ-loop = search in
     let a : tie.Start Inv-loop μ-loop = search in
     let e = decides w in
-    e ∙ sym (frames-stay (a .args .records) (now (a .args .codes)) (now (a .args .tails)) (l .loop .c + 1) (a .args .channels) (λ z. omega (arith, e, z)) (omega arith))
+    e ∙ sym (frames-stay (a .args .records) (now (a .args .codes)) (now (a .args .tails)) (l .loop .c + 1) (a .args .channels) (λ z. omega (arith, e, z))
+    (omega arith))
 
 returns-2 : tie.Need-returns-2 Inv-loop μ-loop
 returns-2 c =

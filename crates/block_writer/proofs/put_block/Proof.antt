@@ -1,4 +1,4 @@
--- `blocks::writing::put_block` meets its contract: each turn lays one frame into what is left. Assumes nothing.
+-- `block_writer::put_block` meets its contract: each turn lays one frame into what is left. Assumes nothing.
 use Prim.Native.Nat.{_+_, _*_, _-_, _≤_}
 use borrow.Author.Needs.{needs}
 use denote.Ref.{now}
@@ -10,13 +10,15 @@ use Rattle.block_writer.proofs.put_block.Statement.{statement}
 use Rattle.block_writer.proofs.put_block.Tie as tie
 
 abbrev Inv-loop : tie.InvT-loop
-Inv-loop channels codes tails out₀ list empties at₀ c₀ out at c = (c ≤ channels) × Laid (bytesAt (record { at = list; empty = empties }) codes tails) out₀ out at c
+Inv-loop channels codes tails out₀ list empties at₀ c₀ out at c =
+    (c ≤ channels) × Laid (bytesAt (record { at = list; empty = empties }) codes tails) out₀ out at c
 
 abbrev μ-loop : tie.MeasureT-loop
 μ-loop channels codes tails out₀ list empties at₀ c₀ out at c = channels - c
 
 -- what the reply 0 tells
-passing : (a : tie.Start Inv-loop μ-loop) → Passing (a .args .records) (a .args .channels) (now (a .args .codes)) (now (a .args .tails)) (length (now (a .args .out)))
+passing : (a : tie.Start Inv-loop μ-loop)
+    → Passing (a .args .records) (a .args .channels) (now (a .args .codes)) (now (a .args .tails)) (length (now (a .args .out)))
 passing a = block-told _ _ _ _ _ (a .pre)
 
 loop-again : tie.Need-loop-again Inv-loop μ-loop
@@ -25,7 +27,8 @@ loop-again c =
     let l : tie.At-loop Inv-loop μ-loop = search in
     let k = l .loop .c in (
       search needs,
-      frame-laid (passing (search)) (l .loop .inv .1) (omega arith) (k * 800 + 800 - k * 800) (k * 320 + 320 - k * 320) _ _ (omega arith) (omega arith) (w .put-frame .ensures .0) (w .put-frame .ensures .1),
+      frame-laid (passing (search)) (l .loop .inv .1) (omega arith) (k * 800 + 800 - k * 800) (k * 320 + 320 - k * 320) _ _ (omega arith) (omega arith)
+          (w .put-frame .ensures .0) (w .put-frame .ensures .1),
     )
 
 put-frame-requires : tie.Need-put-frame-requires Inv-loop μ-loop

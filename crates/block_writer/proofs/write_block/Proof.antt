@@ -1,4 +1,4 @@
--- `blocks::writing::write_block` meets its contract: all is tried first, and only the reply 0 lays the block. Assumes nothing.
+-- `block_writer::write_block` meets its contract: all is tried first, and only the reply 0 lays the block. Assumes nothing.
 use borrow.Author.Needs.{needs}
 use denote.Ref.{now}
 use mathlib.Core.Path.{sym, _∙_}

@@ -23,9 +23,11 @@ abbrev pub pastRecords : Record
 pastRecords = record { mode = 0; transient = 0; «flag_l» = 0; «flag_n» = 0; «flag_c» = 0; norms = []; noise = 0; «tail_bits» = 0 }
 
 -- all eight are made: the list is mapped
-pub mapped : {A B : Type 0} (g : A → B) (l : List A) (d : A) (out₀ out : List B) → length l ≡ 8 → length out₀ ≡ 8 → Fronted (λ c. g (getD l c d)) out₀ out 8 → out ≡ map g l
+pub mapped : {A B : Type 0} (g : A → B) (l : List A) (d : A) (out₀ out : List B) → length l ≡ 8 → length out₀ ≡ 8 → Fronted (λ c. g (getD l c d)) out₀ out 8
+    → out ≡ map g l
 mapped {A} {B} g l d out₀ out el eo f =
-    f .same ∙ ap (λ (x : List B). table 8 (λ c. g (getD l c d)) ++ x) (drop-of-length-le out₀ {i = 8} (omega (arith, eo))) ∙ append-nil (table 8 (λ c. g (getD l c d)))
+    f .same ∙ ap (λ (x : List B). table 8 (λ c. g (getD l c d)) ++ x) (drop-of-length-le out₀ {i = 8} (omega (arith, eo)))
+    ∙ append-nil (table 8 (λ c. g (getD l c d)))
     ∙ sym (filled (λ c. g (getD l c d)) 8 (g d) (map g l) (length-map l g ∙ el) (λ k h. List·getD-map g l k d))
 
 pub at-eight : {B : Type 0} {f : ℕ → B} {out₀ out : List B} {c : ℕ} → Fronted f out₀ out c → c ≡ 8 → Fronted f out₀ out 8

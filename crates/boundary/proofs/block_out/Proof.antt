@@ -1,9 +1,9 @@
--- `g719::block_out` meets its contract: each turn gives one reading more. Assumes nothing.
+-- `boundary::block_out` meets its contract: each turn gives one reading more. Assumes nothing.
 use Prim.Native.Nat.{_-_, _≤_}
 use borrow.Author.Needs.{needs}
 use lib.ListN.{length, getD}
 use mathlib.Core.List.{List}
-use mathlib.Core.Path.{_≡_, refl, ap, _∙_}
+use mathlib.Core.Path.{_≡_, refl, ap}
 use native.Mathlib.Omega.{arith}
 use Rattle.ground.proofs.Laws.Runs.{Fronted, fronted-none, fronted-more}
 use Rattle.boundary.specs.Flags.{readingOut, blockOut}

@@ -1,15 +1,9 @@
--- `g719::byte_numbers` meets its contract: by the case that the answer is. Assumes nothing.
+-- `boundary::byte_numbers` meets its contract: by the case that the answer is. Assumes nothing.
 use mathlib.Core.Path.{sym, ap}
 use Rattle.boundary.specs.Numbers.{byteNumbers}
 use borrow.Author.Needs.{needs}
 use Rattle.boundary.proofs.byte_numbers.Statement.{statement}
 use Rattle.boundary.proofs.byte_numbers.Tie as tie
-
-enum-known-b : tie.Need-enum-known-b
-enum-known-b c = search needs
-
-enum-told : tie.Need-enum-told
-enum-told c = search needs
 
 returns : tie.Need-returns
 unfolding byteNumbers
@@ -20,4 +14,4 @@ unfolding byteNumbers
 returns-2 c = sym (ap byteNumbers (c .enum-told .given .1))
 
 pub byte-numbers-spec : {M : Type 1} → statement M
-byte-numbers-spec = tie.close (tie.spec enum-known-b enum-told returns returns-2)
+byte-numbers-spec = tie.close (tie.spec (λ c. search needs) (λ c. search needs) returns returns-2)

@@ -1,4 +1,4 @@
--- `g719::choice_out` meets its contract: the flag beside the reply. Assumes nothing.
+-- `boundary::choice_out` meets its contract: the flag beside the reply. Assumes nothing.
 use mathlib.Core.Path.{ap}
 use Prim.Native.Nat.{ℕ}
 use Rattle.boundary.specs.Flags.{choiceOut}

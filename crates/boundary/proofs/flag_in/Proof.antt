@@ -1,7 +1,6 @@
--- `g719::flag_in` meets its contract. Assumes nothing.
+-- `boundary::flag_in` meets its contract. Assumes nothing.
 use mathlib.Core.Path.{refl}
 use Rattle.boundary.specs.Flags.{flagIn}
-use borrow.Author.Needs.{needs}
 use Rattle.boundary.proofs.flag_in.Statement.{statement}
 use Rattle.boundary.proofs.flag_in.Tie as tie
 

@@ -1,7 +1,6 @@
--- `g719::flag_out` meets its contract. Assumes nothing.
+-- `boundary::flag_out` meets its contract. Assumes nothing.
 use mathlib.Core.Path.{sym, ap}
 use Rattle.boundary.specs.Flags.{flagOut}
-use borrow.Author.Needs.{needs}
 use Rattle.boundary.proofs.flag_out.Statement.{statement}
 use Rattle.boundary.proofs.flag_out.Tie as tie
 

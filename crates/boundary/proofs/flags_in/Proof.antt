@@ -1,8 +1,8 @@
--- `g719::flags_in` meets its contract: each turn takes one flag more. Assumes nothing.
+-- `boundary::flags_in` meets its contract: each turn takes one flag more. Assumes nothing.
 use Prim.Native.Nat.{_-_, _≤_}
 use borrow.Author.Needs.{needs}
 use lib.ListN.{length, getD}
-use mathlib.Core.Path.{_≡_, refl, _∙_}
+use mathlib.Core.Path.{_≡_, refl}
 use native.Mathlib.Omega.{arith}
 use Rattle.ground.proofs.Laws.Runs.{Fronted, fronted-none, fronted-more}
 use Rattle.boundary.specs.Flags.{flagIn}

@@ -1,4 +1,4 @@
--- `g719::reading_out` meets its contract: the record beside reply and next place. Assumes nothing.
+-- `boundary::reading_out` meets its contract: the record beside reply and next place. Assumes nothing.
 use mathlib.Core.Path.{ap}
 use Rattle.boundary.specs.Flags.{readingOut}
 use Rattle.boundary.specs.declared.Record.{Record}

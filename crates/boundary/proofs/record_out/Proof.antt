@@ -1,4 +1,4 @@
--- `g719::record_out` meets its contract: flag by flag. Assumes nothing.
+-- `boundary::record_out` meets its contract: flag by flag. Assumes nothing.
 use Rattle.boundary.proofs.Laws.Flags.{made-out}
 use borrow.Author.Needs.{needs}
 use Rattle.boundary.proofs.record_out.Statement.{statement}

@@ -1,10 +1,10 @@
--- `g719::records_in` meets its contract: each turn takes one record more. Assumes nothing.
+-- `boundary::records_in` meets its contract: each turn takes one record more. Assumes nothing.
 use Prim.Native.Nat.{_-_, _≤_}
 use borrow.Author.Needs.{needs}
 use lib.ListN.{length, getD}
 use mathlib.Core.Bool.{Bool}
 use mathlib.Core.List.{List}
-use mathlib.Core.Path.{_≡_, refl, ap₂, _∙_}
+use mathlib.Core.Path.{_≡_, refl, ap₂}
 use native.Mathlib.Omega.{arith}
 use Rattle.ground.proofs.Laws.Runs.{Fronted, fronted-none, fronted-more}
 use Rattle.frame.specs.declared.Record as frame

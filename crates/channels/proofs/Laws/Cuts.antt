@@ -37,7 +37,8 @@ stored-cut f p (bare e l) h b = absurd (omega arith)
 stored-cut f p (full m x e l) h b = ap stepOf (first-cut f m x e p h (omega arith))
 
 -- behind its first frame the rest of a block is cut
-rest-cut : {k : ℕ} {s : List ℕ} (q n : ℕ) → Frames k s → q < length s → (0 < q → blockStep k (take q s) ≡ stops cut) → further n (within (blockStep k (take q s))) ≡ stops cut
+rest-cut : {k : ℕ} {s : List ℕ} (q n : ℕ) → Frames k s → q < length s → (0 < q → blockStep k (take q s) ≡ stops cut)
+    → further n (within (blockStep k (take q s))) ≡ stops cut
 rest-cut zero n fs h g = ap (further n) (missing fs h)
 rest-cut (suc q) n fs h g = ap (λ (x : Step). further n (within x)) (g (omega arith))
 

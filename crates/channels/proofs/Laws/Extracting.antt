@@ -88,7 +88,8 @@ module _ (s : List ℕ) (n c : ℕ) where
   counting-none k at e =
       record { few = omega arith; at-frame = at-first at e; bytes = sym (ap length (runs-none (λ b. frameAt s (b * n + c)))); before = omega arith }
 
-  pub counting-more : {k at m b : ℕ} (z r : ℕ) → 1 ≤ n → Counting k at m b → b < k → z ≡ sizeAt (drop at s) → r ≡ placeFrom s at n → Counting k r (m + z) (b + 1)
+  pub counting-more : {k at m b : ℕ} (z r : ℕ) → 1 ≤ n → Counting k at m b → b < k → z ≡ sizeAt (drop at s) → r ≡ placeFrom s at n
+      → Counting k r (m + z) (b + 1)
   counting-more {k} {at} {m} {b} z r one C h ez er =
       let p = C .at-frame .place in
       let l : z ≡ length (frameAt s (b * n + c)) = ez ∙ ap (λ (q : ℕ). sizeAt (drop q s)) p ∙ sym (length-frame s (b * n + c)) in
@@ -109,7 +110,11 @@ module _ (s : List ℕ) (n c : ℕ) where
 
   pub copying-none : (k : ℕ) (out : List ℕ) (at : ℕ) → at ≡ placeFrom s 0 c → Copying k out out at 0 0
   copying-none k out at e =
-      record { few = omega arith; at-frame = at-first at e; laid = subst (λ (t : List ℕ). Laid out 0 t out 0) (sym (runs-none (λ b. frameAt s (b * n + c)))) (laid-none out 0 refl) }
+      record {
+        few = omega arith;
+        at-frame = at-first at e;
+        laid = subst (λ (t : List ℕ). Laid out 0 t out 0) (sym (runs-none (λ b. frameAt s (b * n + c)))) (laid-none out 0 refl);
+      }
 
   module _ {k : ℕ} {out₀ out : List ℕ} {at to b : ℕ} (C : Copying k out₀ out at to b) (h : b < k) (z : ℕ) (ez : z ≡ sizeAt (drop at s)) where
     part : take (at + z - at) (drop at s) ≡ frameAt s (b * n + c)
@@ -199,7 +204,12 @@ module _ (src : List ℕ) (n c : ℕ) (out : List ℕ) where
       pub extract-short : (r : Copied) → length out < m → r ≡ refusedCopy shortRoom → Extracted src n c out r out
       unfolding extractAnswer
       extract-short r h q =
-          answer-refused r (q ∙ sym (rw (a, eq-eqb (walkBlocks n src .reply) 0 same-reply, lt-ltb (length out) (length (extracted n c (walkBlocks n src .count) src)) (omega (arith, same-bytes))) refl))
+          answer-refused r (q ∙ sym
+          (rw (
+            a,
+            eq-eqb (walkBlocks n src .reply) 0 same-reply,
+            lt-ltb (length out) (length (extracted n c (walkBlocks n src .count) src)) (omega (arith, same-bytes)),
+          ) refl))
           (λ y. let g = ap (λ (x : Copied). x .reply) q in omega (arith, g, y))
 
       pub extract-done : (out′ : List ℕ) → m ≤ length out → out′ ≡ extracted n c (found .count) src ++ drop (length (extracted n c (found .count) src)) out

@@ -18,13 +18,15 @@ use Rattle.frames.proofs.Laws.Frames.{blocks-frames, frames-blocks}
 use Rattle.channels.specs.Copies.{checkAnswer}
 
 -- exactly so many sound blocks, at most 3,000, and nothing else
-pub walk-sound : (n : ℕ) → 1 ≤ n → (s : List ℕ) → walkBlocks n s .reply ≡ 0 → Blocks n (walkBlocks n s .count) s × (walkBlocks n s .count ≤ mostFrames) × (walkBlocks n s .place ≡ length s)
+pub walk-sound : (n : ℕ) → 1 ≤ n → (s : List ℕ) → walkBlocks n s .reply ≡ 0
+    → Blocks n (walkBlocks n s .count) s × (walkBlocks n s .count ≤ mostFrames) × (walkBlocks n s .place ≡ length s)
 walk-sound n h s e = go (t .stop)
   where
     t : Told (blockStep n) (Frames n) mostFrames s (walkBlocks n s)
     t = walk-told (block-lawful n h) mostFrames s
 
-    go : Stop (blockStep n) mostFrames (t .rest) (walkBlocks n s) → Blocks n (walkBlocks n s .count) s × (walkBlocks n s .count ≤ mostFrames) × (walkBlocks n s .place ≡ length s)
+    go : Stop (blockStep n) mostFrames (t .rest) (walkBlocks n s)
+        → Blocks n (walkBlocks n s .count) s × (walkBlocks n s .count ≤ mostFrames) × (walkBlocks n s .place ≡ length s)
     go (ended r q) =
         let w : s ≡ t .front = t .whole ∙ ap (λ (x : List ℕ). t .front ++ x) q ∙ append-nil (t .front) in
         (subst (Blocks n (walkBlocks n s .count)) (sym w) (t .units), t .few, sym (t .place) ∙ ap length (sym w))

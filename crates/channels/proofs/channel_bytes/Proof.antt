@@ -1,9 +1,9 @@
--- `channels::extracting::channel_bytes` meets its contract: each turn counts one frame more of the channel. Assumes nothing.
+-- `channels::channel_bytes` meets its contract: each turn counts one frame more of the channel. Assumes nothing.
 use Prim.Native.Nat.{_-_, ℕ}
 use borrow.Author.Needs.{needs}
 use denote.Ref.{now}
 use lib.ListN.{length}
-use mathlib.Core.Path.{_≡_, refl, ap, _∙_}
+use mathlib.Core.Path.{_≡_, ap, _∙_}
 use native.Mathlib.Omega.{arith}
 use Rattle.channels.specs.Copies.{extracted}
 use Rattle.channels.proofs.Laws.Extracting.{frame-inside, Counting, counting-none, counting-more}

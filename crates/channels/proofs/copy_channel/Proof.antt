@@ -1,4 +1,4 @@
--- `channels::extracting::copy_channel` meets its contract: each turn lays one frame more of the channel behind the others. Assumes nothing.
+-- `channels::copy_channel` meets its contract: each turn lays one frame more of the channel behind the others. Assumes nothing.
 use Prim.Native.Nat.{_-_}
 use borrow.Author.Needs.{needs}
 use native.Mathlib.Omega.{arith}

@@ -1,8 +1,8 @@
--- `channels::extracting::extract` meets its contract, in 02's order. Assumes nothing.
+-- `channels::extract` meets its contract, in 02's order. Assumes nothing.
 use borrow.Author.Needs.{needs}
 use borrow.Author.Tests.{not-true, not-false}
 use mathlib.Core.Bool.{true}
-use mathlib.Core.Path.{_≡_, refl, sym, ap, _∙_}
+use mathlib.Core.Path.{_≡_, sym, _∙_}
 use native.Mathlib.Omega.{arith}
 use Rattle.channels.specs.Copies.{isAmong}
 use Rattle.channels.proofs.Laws.Extracting.{among-told, extract-outside, extract-stopped, extract-short, extract-done}

@@ -1,7 +1,7 @@
--- `channels::extracting::is_among` meets its contract: 1 to 8 channels, and the channel under their count. Assumes nothing.
+-- `channels::is_among` meets its contract: 1 to 8 channels, and the channel under their count. Assumes nothing.
 use borrow.Author.Needs.{needs}
 use borrow.Author.Tests.{not-true, not-false}
-use mathlib.Core.Path.{_≡_, sym, _∙_}
+use mathlib.Core.Path.{sym, _∙_}
 use Rattle.channels.proofs.Laws.Extracting.{among-not, among-is}
 use Rattle.channels.proofs.is_among.Statement.{statement}
 use Rattle.channels.proofs.is_among.Tie as tie

@@ -1,4 +1,5 @@
--- `channels_run::run_join` stays within the text: each list begins where the one before it ended, and each lent part is no longer than what was filled. Assumes nothing.
+-- `channels_run::run_join` stays within the text: each list begins where the one before it ended, and each lent part is no longer than what was filled. Assumes
+-- nothing.
 use mathlib.Core.Path.{sym}
 use lib.Seq.{length-take-le}
 use native.Mathlib.Omega.{arith}
@@ -20,7 +21,8 @@ run-join-spec =
     (λ c. search needs)
     (λ c. let f : tie.After-fill-bytes = search in sym (length-take-le (f .fill-bytes .result .count) (f .fill-bytes .last .1 .1 .0) (omega arith)))
     (λ c. search needs)
-    (λ c. let l : tie.After-lengths-of = search in let f : tie.After-fill-numbers = search in sym (length-take-le (f .fill-numbers .result .count) (l .lengths-of .result) (omega arith)))
+    (λ c. let l : tie.After-lengths-of = search in
+    let f : tie.After-fill-numbers = search in sym (length-take-le (f .fill-numbers .result .count) (l .lengths-of .result) (omega arith)))
     (λ c. search needs)
     (λ c. let f : tie.After-fill-bytes2 = search in sym (length-take-le (f .fill-bytes2 .result .count) (f .fill-bytes2 .last .1 .1 .0) (omega arith)))
     (λ c κs. search needs)

@@ -23,7 +23,9 @@ use Rattle.kinds.specs.Budget.{kindsAt}
 use Rattle.frame.specs.Layout.{kindsOf}
 use Rattle.frame.specs.declared.Record.{Record}
 use Rattle.layout.specs.Fits.{fits}
-use Rattle.layout.specs.Parts.{kindsFor, startReply}
+use Rattle.layout.specs.Parts.{kindsFor, startReply, planOf}
+use Rattle.layout.specs.declared.Plan.{Plan}
+use Rattle.layout.proofs.Laws.Parts.{room-800, Planned, planned}
 use Rattle.choice.specs.Choice.{wordy, asWord, asFixed, plain, rateAt, wordsCost, fixedCost, choiceReply, choiceOf}
 use Rattle.choice.specs.Inner.{cheaper}
 
@@ -35,11 +37,12 @@ module _ (r : Record) (cs : List ℕ) (x : ℕ) (ex : x ≡ startReply r (length
   choice-start n = rw (← ex, ne-eqb x 0 n, ne-eqb x 0 n)
 
   module _ (z : x ≡ 0) (ks : List ℕ) (ek : ks ≡ kindsFor (plain r)) where
-    pub choice-wide : fits (map coding ks) (take 800 cs) ≡ false → record { reply = wideCode; flag = false } ≡ choiceOf r cs
+    choice-wide : fits (map coding ks) (take 800 cs) ≡ false → record { reply = wideCode; flag = false } ≡ choiceOf r cs
     unfolding choiceOf choiceReply
     choice-wide f = rw (← ex, eq-eqb x 0 z, ← ek, f)
 
-    pub choice-made : fits (map coding ks) (take 800 cs) ≡ true → (b : Bool) → b ≡ ltb (wordsCost r cs) (fixedCost r) → record { reply = done; flag = b } ≡ choiceOf r cs
+    choice-made : fits (map coding ks) (take 800 cs) ≡ true → (b : Bool) → b ≡ ltb (wordsCost r cs) (fixedCost r)
+        → record { reply = done; flag = b } ≡ choiceOf r cs
     unfolding choiceOf choiceReply
     choice-made f b e = rw (← ex, eq-eqb x 0 z, ← ek, f, e)
 
@@ -106,29 +109,40 @@ fixed-high k l h = rw (le-leb 2 k l, lt-leb k 5 h)
 -- ---- the loop that adds up both costs
 
 pub record Costing (ks vs : List ℕ) (w f i : ℕ) : Type 0 where
+  pub upto : i ≤ length ks
   pub words : w ≡ sumTo (λ j. asWord (getD ks j 0) (getD vs j 0)) i
   pub fixed : f ≡ sumTo (λ j. asFixed (getD ks j 0)) i
   pub few : (w ≤ 16 * i) × (f ≤ 16 * i)
 
-pub cost-start : (ks vs : List ℕ) → Costing ks vs 0 0 0
-cost-start ks vs =
-    record { words = sym (sum-nil (λ j. asWord (getD ks j 0) (getD vs j 0))); fixed = sym (sum-nil (λ j. asFixed (getD ks j 0))); few = (omega arith, omega arith) }
+module _ {ks vs : List ℕ} where
+  pub cost-start : Costing ks vs 0 0 0
+  cost-start =
+      record {
+        upto = omega arith;
+        words = sym (sum-nil (λ j. asWord (getD ks j 0) (getD vs j 0)));
+        fixed = sym (sum-nil (λ j. asFixed (getD ks j 0)));
+        few = (omega arith, omega arith);
+      }
 
-pub cost-turn : (ks vs : List ℕ) (w f i a b : ℕ) → Costing ks vs w f i → (a ≡ asWord (getD ks i 0) (getD vs i 0)) × (a ≤ 16) → (b ≡ asFixed (getD ks i 0)) × (b ≤ 16)
-    → Costing ks vs (w + a) (f + b) (i + 1)
-cost-turn ks vs w f i a b I p q =
-    record {
-      words = omega (arith, I .words, p .0, sum-more (λ j. asWord (getD ks j 0) (getD vs j 0)) i);
-      fixed = omega (arith, I .fixed, q .0, sum-more (λ j. asFixed (getD ks j 0)) i);
-      few = (omega (arith, I .few .0, p .1), omega (arith, I .few .1, q .1));
-    }
+  module _ {w f i : ℕ} (I : Costing ks vs w f i) where
+    pub cost-turn : {a b : ℕ} → i < length ks → (a ≡ asWord (getD ks i 0) (getD vs i 0)) × (a ≤ 16) → (b ≡ asFixed (getD ks i 0)) × (b ≤ 16)
+        → Costing ks vs (w + a) (f + b) (i + 1)
+    cost-turn h p q =
+        record {
+          upto = omega arith;
+          words = omega (arith, I .words, p .0, sum-more (λ j. asWord (getD ks j 0) (getD vs j 0)) i);
+          fixed = omega (arith, I .fixed, q .0, sum-more (λ j. asFixed (getD ks j 0)) i);
+          few = (omega (arith, I .few .0, p .1), omega (arith, I .few .1, q .1));
+        }
 
-pub cost-end : (ks vs : List ℕ) (w f i : ℕ) → Costing ks vs w f i → i ≡ length ks → ltb w f ≡ cheaper ks vs
-unfolding cheaper
-cost-end ks vs w f i I e = ap₂ ltb (I .words ∙ ap (sumTo (λ j. asWord (getD ks j 0) (getD vs j 0))) e) (I .fixed ∙ ap (sumTo (λ j. asFixed (getD ks j 0))) e)
+    pub cost-end : length ks ≤ i → ltb w f ≡ cheaper ks vs
+    unfolding cheaper
+    cost-end h =
+        let e : i ≡ length ks = omega (arith, I .upto) in
+        ap₂ ltb (I .words ∙ ap (sumTo (λ j. asWord (getD ks j 0) (getD vs j 0))) e) (I .fixed ∙ ap (sumTo (λ j. asFixed (getD ks j 0))) e)
 
 -- over a record's places it is 01's choice
-pub cheaper-is : (r : Record) (cs ks : List ℕ) → ks ≡ kindsFor (plain r) → length ks ≡ 800 → cheaper ks (take 800 cs) ≡ ltb (wordsCost r cs) (fixedCost r)
+cheaper-is : (r : Record) (cs ks : List ℕ) → ks ≡ kindsFor (plain r) → length ks ≡ 800 → cheaper ks (take 800 cs) ≡ ltb (wordsCost r cs) (fixedCost r)
 unfolding cheaper wordsCost fixedCost
 cheaper-is r cs ks ek l =
     let f : ℕ → ℕ = λ j. asWord (getD ks j 0) (getD (take 800 cs) j 0) in
@@ -139,3 +153,24 @@ cheaper-is r cs ks ek l =
     ∙ sum-same f (λ i. asWord (rateAt r i) (getD cs i 0)) 800
     (λ j h. ap₂ asWord (at j) (getD-take 800 cs j 0 h) ∙ like-at r j h .word (getD cs j 0)))
     (ap (sumTo g) l ∙ sum-same g (λ i. asFixed (rateAt r i)) 800 (λ j h. ap asFixed (at j) ∙ like-at r j h .fixed))
+
+-- ---- the choice as the code makes it: by the plan of the record with FlagC 0
+
+-- a plan's kinds, beside the 800 numbers
+pub record Ready (p : Plan) (cs : List ℕ) : Type 0 where
+  pub same : length (p .kinds) ≡ length (take 800 cs)
+  pub few : length (p .kinds) ≤ 800
+
+module _ {x : ℕ} {q : Record} {p : Plan} (r : Record) (cs : List ℕ) (ex : x ≡ startReply r (length cs)) (z : x ≡ 0) (eq : q ≡ plain r) (ep : p ≡ planOf q) where
+  P : Planned (plain r) p
+  P = planned (plain r) p (ep ∙ ap planOf eq)
+
+  pub choice-ready : Ready p cs
+  choice-ready = record { same = P .long ∙ sym (room-800 r cs x ex z); few = omega (arith, P .long) }
+
+  module _ {b : Bool} (eb : b ≡ fits (map coding (p .kinds)) (take 800 cs)) where
+    pub choice-stops : b ≡ false → record { reply = wideCode; flag = false } ≡ choiceOf r cs
+    choice-stops f = choice-wide r cs x ex z (p .kinds) (P .kinds) (sym eb ∙ f)
+
+    pub choice-done : {f : Bool} → b ≡ true → f ≡ cheaper (p .kinds) (take 800 cs) → record { reply = done; flag = f } ≡ choiceOf r cs
+    choice-done {f} y e = choice-made r cs x ex z (p .kinds) (P .kinds) (sym eb ∙ y) f (e ∙ cheaper-is r cs (p .kinds) (P .kinds) (P .long))

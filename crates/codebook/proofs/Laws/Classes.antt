@@ -9,8 +9,7 @@ use lib.ListN.{length, take, drop}
 use lib.IntN.{ℤ}
 use Rattle.ground.specs.Fills.{from}
 use Rattle.codebook.specs.Table18.{printed}
-use Rattle.codebook.specs.Codebook.{Class, classes, ends, vectors, eqRow, among, book}
-use Rattle.codebook.proofs.Laws.Codebook.{six}
+use Rattle.codebook.specs.Codebook.{Class, classes, ends, vectors, eqRow, among, book, six}
 
 abbrev pub allClasses : List Class
 allClasses = classes ++ six ∷ ends

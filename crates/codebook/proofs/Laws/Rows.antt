@@ -98,7 +98,8 @@ book-long = ap length book-rows ∙ rows-long 0 codes ∙ long
 pub row-unpacked : (n : ℕ) → n < 256 → row n ≡ unpack (ltb n 128) (getD codes n 0)
 unfolding row
 row-unpacked n l =
-    ap (λ (b : List (List ℤ)). getD b n []) book-rows ∙ getD-rows 0 codes n (omega (arith, long)) ∙ ap (λ (m : ℕ). unpack (ltb m 128) (getD codes n 0)) (zero-add n)
+    ap (λ (b : List (List ℤ)). getD b n []) book-rows ∙ getD-rows 0 codes n (omega (arith, long))
+    ∙ ap (λ (m : ℕ). unpack (ltb m 128) (getD codes n 0)) (zero-add n)
 
 pub row-long : (n : ℕ) → n < 256 → length (row n) ≡ 8
 row-long n l = rw (row-unpacked n l) (length-from _ 8 0)
@@ -113,7 +114,8 @@ all-pack = tt
 
 pub row-code : (n : ℕ) → n < 256 → code (row n) ≡ getD codes n 0
 unfolding packs
-row-code n l = rw (row-unpacked n l) (eqb→eq (code (unpack (ltb n 128) (getD codes n 0))) (getD codes n 0) (every-at packs codes 0 all-pack n (omega (arith, long))))
+row-code n l =
+    rw (row-unpacked n l) (eqb→eq (code (unpack (ltb n 128) (getD codes n 0))) (getD codes n 0) (every-at packs codes 0 all-pack n (omega (arith, long))))
 
 -- the first place of c
 firstOf : ℕ → List ℕ → ℕ
@@ -190,3 +192,26 @@ sign-code n l =
     let s = getD signs n 0 in
     let b = and-T (eqb (getD codes (128 + n) 0) (signed s)) (ltb s 256) (every-at sign-there signs 0 all-signs n l) in
     (eqb→eq (getD codes (128 + n) 0) (signed s) (b .0), ltb→lt s 256 (b .1))
+
+-- ---- what the code reads and makes
+
+pub two-read : {n : ℕ} {low : List ℕ} → (low ≡ twos) × (n < 128) → (getD low n 0 ≡ getD twos n 0) × (getD low n 0 < 65536)
+two-read {n} p =
+    let e = ap (λ (l : List ℕ). getD l n 0) (p .0) in
+    (e, omega (arith, two-code n (p .1) .1))
+
+pub sign-read : {n : ℕ} {high : List ℕ} → (high ≡ signs) × (n < 128) → (getD high n 0 ≡ getD signs n 0) × (getD high n 0 < 256)
+sign-read {n} p =
+    let e = ap (λ (l : List ℕ). getD l n 0) (p .0) in
+    (e, omega (arith, sign-code n (p .1) .1))
+
+pub code-two : {n c : ℕ} → n < 128 → n < 256 → c ≡ getD twos n 0 → c ≡ code (row n)
+code-two {n} l h e = e ∙ sym (two-code n l .0) ∙ sym (row-code n h)
+
+pub code-sign : {n s : ℕ} → 128 ≤ n → n < 256 → s ≡ getD signs (n - 128) 0 → (255 - s) * 256 + s ≡ code (row n)
+code-sign {n} l h q =
+    let e : 128 + (n - 128) ≡ n = omega arith in
+    ap signed q ∙ sym (sign-code (n - 128) (omega arith) .0) ∙ ap (λ (m : ℕ). getD codes m 0) e ∙ sym (row-code n h)
+
+pub row-made : {n c : ℕ} {v : List ℤ} → n < 256 → c ≡ code (row n) → v ≡ unpack (ltb n 128) c → v ≡ row n
+row-made {n} l e q = q ∙ ap (unpack (ltb n 128)) (e ∙ row-code n l) ∙ sym (row-unpacked n l)

@@ -1,22 +1,13 @@
--- `codebook::entry_of` meets its contract: each way out is a case of the definition.
--- Assumes nothing.
+-- `codebook::entry_of` meets its contract: each way out is a case of the definition. Assumes nothing.
 use Rattle.codebook.proofs.entry_of.Statement.{statement}
 use Rattle.codebook.proofs.entry_of.Tie as tie
 
-returns : tie.Need-returns
-returns c = simp (c .before .if1 .taken, c .if2 .taken)
-
-returns-2 : tie.Need-returns-2
-returns-2 c = simp (c .before .if1 .taken, c .if2 .left)
-
-returns-3 : tie.Need-returns-3
-returns-3 c = simp (c .before .before .if1 .left, c .before .if3 .taken, c .if4 .taken)
-
-returns-4 : tie.Need-returns-4
-returns-4 c = simp (c .before .before .if1 .left, c .before .if3 .taken, c .if4 .left)
-
-returns-5 : tie.Need-returns-5
-returns-5 c = simp (c .before .if1 .left, c .if3 .left)
-
 pub entry-of-spec : {M : Type 1} → statement M
-entry-of-spec = tie.close (tie.spec returns returns-2 returns-3 returns-4 returns-5)
+entry-of-spec =
+    tie.close
+    (tie.spec
+    (λ c. simp (c .before .if1 .taken, c .if2 .taken))
+    (λ c. simp (c .before .if1 .taken, c .if2 .left))
+    (λ c. let e : tie.Else1 = search in simp (e .if1 .left, c .before .if3 .taken, c .if4 .taken))
+    (λ c. let e : tie.Else1 = search in simp (e .if1 .left, c .before .if3 .taken, c .if4 .left))
+    (λ c. simp (c .before .if1 .left, c .if3 .left)))

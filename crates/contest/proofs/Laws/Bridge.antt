@@ -93,13 +93,15 @@ lower-competes b = refl
 
 -- what a round makes of the band b at place p, by whether it fits
 abbrev turned : Z.Game → ℕ → Z.Band → Bool → ℕ → Z.Game
-turned g p b t n = cond t (record { bands = set (g .bands) p (granted b); left = g .left - n }) (record { bands = set (g .bands) p (dropped b); left = g .left })
+turned g p b t n =
+    cond t (record { bands = set (g .bands) p (granted b); left = g .left - n }) (record { bands = set (g .bands) p (dropped b); left = g .left })
 
 round-by : (g : Z.Game) (p : ℕ) (b : Z.Band) → first g ≡ p → ahead g ≡ b → round g ≡ turned g p b (leb (b .size) (g .left)) (b .size)
 unfolding round
 round-by g p b e f = rw (f, e)
 
-turned-same : (g : Game) → Ready (R.ahead g) → (t : Bool) → turned (lowered g) (R.first g) (lower (R.ahead g)) t (R.ahead g .size) ≡ lowered (cond t (R.served g) (R.refused g))
+turned-same : (g : Game) → Ready (R.ahead g) → (t : Bool)
+    → turned (lowered g) (R.first g) (lower (R.ahead g)) t (R.ahead g .size) ≡ lowered (cond t (R.served g) (R.refused g))
 unfolding lowered
 turned-same g r true =
     ap (λ (l : List Z.Band). record { bands = l; left = g .left - R.ahead g .size })

@@ -34,7 +34,8 @@ pub sound-table : (f : ℕ → Band) → ((p : ℕ) → p < 44 → Readys (f p))
 sound-table f h i =
     elim (decLt i 44) [
       | yes p ↦ subst⁻¹ Readys (getD-table f 44 nobody i p) (h i p)
-      | no p ↦ λ c. absurd (false≢true (ap (λ (b : Band). b .competes) (sym (List·getD-eq-default (table 44 f) nobody {n = i} (omega (arith, p, length-from f 44 0)))) ∙ c))
+      | no p ↦ λ c. absurd (false≢true
+          (ap (λ (b : Band). b .competes) (sym (List·getD-eq-default (table 44 f) nobody {n = i} (omega (arith, p, length-from f 44 0)))) ∙ c))
     ]
 
 -- the steps below a score, in the paper's numbers and raised
@@ -181,7 +182,8 @@ module _ (size : ℕ → ℕ) (score : ℕ → ℤ) (competes : ℕ → Bool) (b
 
   paid-end : (p : ℕ) (h : p < 44)
       → paid (at (end .bands) p .score) end
-      ≡ sumTo (λ j. size j * stepsBelow (score p -ℤ pos (32 * nth (rates (played size score competes budget)) p)) (score j) (nth (rates (played size score competes budget)) j)) 44
+      ≡ sumTo (λ j. size j * stepsBelow (score p -ℤ pos (32 * nth (rates (played size score competes budget)) p)) (score j)
+      (nth (rates (played size score competes budget)) j)) 44
   unfolding paid spent
   paid-end p h =
       sum-list (spent (at (end .bands) p .score)) (end .bands) ∙ ap (sumTo (λ j. spent (at (end .bands) p .score) (at (end .bands) j))) lengths

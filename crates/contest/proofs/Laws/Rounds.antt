@@ -12,7 +12,8 @@ use lib.Dec.{leb, ltb, eqb}
 use lib.ListN.{set, length, length-set}
 use lib.Seq.{getD-set-same, getD-set-other}
 use Rattle.ground.specs.Cases.{by-bool}
-use Rattle.contest.specs.Raised.{Band, Game, key, at, nobody, leader, granted, dropped, first, ahead, fits, served, refused, round, contest, Ready, Readys, Sound}
+use Rattle.contest.specs.Raised.{Band, Game, key, at, nobody, leader, granted, dropped, first, ahead, fits, served, refused, round, contest, Ready}
+use Rattle.contest.specs.Raised.{Readys, Sound}
 use Rattle.contest.proofs.Laws.Raised.{sumOf}
 
 -- ---- one round

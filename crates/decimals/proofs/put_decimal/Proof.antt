@@ -1,4 +1,4 @@
--- `listing::put_decimal` meets its contract: its digits are put. Assumes nothing.
+-- `decimals::put_decimal` meets its contract: its digits are put. Assumes nothing.
 use mathlib.Core.Path.{sym, ap, subst}
 use mathlib.Core.List.{List}
 use Prim.Native.Nat.{ℕ}
@@ -11,20 +11,19 @@ use borrow.Author.Needs.{needs}
 use Rattle.decimals.proofs.put_decimal.Statement.{statement}
 use Rattle.decimals.proofs.put_decimal.Tie as tie
 
-places-requires : tie.Need-places-requires
-places-requires c κs = search needs
-
 put-digits-requires : tie.Need-put-digits-requires
-put-digits-requires c κs = omega (arith, c .before .before .before .pre .1, ap length (c .places .ensures), length-digits (c .places .result) (c .before .before .before .args .n))
-
-same-length : tie.Need-same-length
-same-length c = search needs
+put-digits-requires c κs =
+    let at-start : tie.Start = search in
+    omega (arith, at-start .pre .1, ap length (c .places .ensures), length-digits (c .places .result) (at-start .args .n))
 
 returns : tie.Need-returns
 returns c =
-    let a = c .before .before .before .before .before .before .args in
-    subst (λ (t : List ℕ). Laid (now (a .out)) (a .at) t (c .before .before .put-digits .last .0) (c .before .before .put-digits .result))
-    (sym (c .before .before .before .places .ensures)) (c .before .before .put-digits .ensures)
+    let at-put-digits : tie.After-put-digits = search in
+    let at-places : tie.After-places = search in
+    let at-start : tie.Start = search in
+    let a = at-start .args in
+    subst (λ (t : List ℕ). Laid (now (a .out)) (a .at) t (at-put-digits .put-digits .last .0) (at-put-digits .put-digits .result))
+    (sym (at-places .places .ensures)) (at-put-digits .put-digits .ensures)
 
 pub put-decimal-spec : {M : Type 1} → statement M
-put-decimal-spec = tie.close (tie.spec places-requires put-digits-requires same-length returns)
+put-decimal-spec = tie.close (tie.spec (λ c κs. search needs) put-digits-requires (λ c. search needs) returns)

@@ -1,13 +1,16 @@
 -- From what the code has in hand, once the norms are read, to what the reading of a body and of a frame tells.
 -- Assumes nothing.
-use mathlib.Core.Path.{_≡_, sym, ap, ap₂, _∙_}
+use mathlib.Core.Path.{_≡_, refl, sym, ap, ap₂, _∙_}
 use mathlib.Core.Bool.{Bool}
 use mathlib.Core.List.{List, [], _++_, map}
 use Prim.Native.Nat.{ℕ, _+_, _-_, _*_, _≤_, _<_, min}
 use native.Mathlib.Nat.{lt-of-lt-of-le}
 use native.Mathlib.Omega.{arith}
 use lib.Pow.{pow-mono}
-use lib.ListN.{length, drop}
+use lib.ListN.{length, take, drop, set, getD}
+use lib.Seq.{take-all}
+use Rattle.ground.proofs.Laws.Copies.{Copied, copied-more}
+use Rattle.ground.specs.Replies.{cut, noByte, marked, reserved, noData}
 use Rattle.bits.specs.Bits.{view, val}
 use Rattle.bits.proofs.Laws.Views.{view-lt, length-view, view-rest}
 use Rattle.bits.proofs.Laws.Bytes.{view-bits}
@@ -19,19 +22,29 @@ use Rattle.runs.specs.Runs.{runAt, ran, readSome, over, runReply}
 use Rattle.runs.proofs.Laws.Runs.{run-not, run-filled}
 use Rattle.runs.specs.declared.Run.{Run}
 use Rattle.runs.specs.declared.Run.the-variants as run
-use Rattle.prefix.specs.Sizes.{modeBytes}
+use Rattle.norms.specs.Part.{normPart}
+use Rattle.norms.specs.Answers.{partOf}
+use Rattle.norms.specs.declared.NormPart.{NormPart}
+use Rattle.prefix.specs.Sizes.{modeBytes, lengthBytes, modeOf}
 use Rattle.prefix.specs.Prefix.{prefixOf}
 use Rattle.prefix.specs.declared.Prefix.{Prefix}
+use Rattle.prefix.specs.declared.Prefix.the-variants.{Data, NoData, NoByte, Marked, Reserved}
+use Rattle.prefix.specs.declared.Length.{Length}
+use Rattle.prefix.specs.declared.Mode.{Mode}
+use Rattle.prefix.specs.declared.Rate.{Rate}
+use Rattle.prefix.specs.declared.Rate.the-variants as rate
 use Rattle.kinds.proofs.Laws.Kinds.{length-kinds}
-use Rattle.frame.specs.Layout.{Frame, isTransient, flagL, flagC, kindsOf, frame}
+use Rattle.frame.specs.Layout.{Frame, isTransient, flagL, flagN, flagC, kindsOf, frame}
 use Rattle.kinds.specs.Budget.{spare, kindsAt, wideIn}
 use Rattle.kinds.proofs.Laws.Budget.{spare-le}
 use Rattle.frame.proofs.Laws.Places.{frame-not, frame-got, budget-is}
-use Rattle.frame.specs.Answers.{Outcome, refused, empty, sound, outcome, stoppedAt, readBody, bodyOf, started, flagsOf, readingOf, codesAfter, tailAfter}
+use Rattle.frame.specs.Answers.{Outcome, refused, empty, sound, outcome, stoppedAt, readBody, bodyOf, started, readAnswer, flagsOf, readingOf, codesAfter}
+use Rattle.frame.specs.Answers.{tailAfter}
 use Rattle.tails.specs.Tails.{tailFrom}
 use Rattle.tails.proofs.Laws.Tails.{tail-made}
 use Rattle.frame.specs.Inner.{Opened, Held, BodyTold, FrameTold, madeReading}
-use Rattle.frame.proofs.Laws.Reads.{never-done, length-body}
+use Rattle.frame.proofs.Laws.Reads.{never-done, norms-refused, norms-opened, read-started, data-cut, data-whole, field-sized, field-mode}
+use Rattle.frame.proofs.Laws.Reads.{body-part, length-body}
 use Rattle.kinds.specs.declared.Flags.{Flags}
 use Rattle.frame.specs.declared.Reading.{Reading}
 
@@ -68,7 +81,8 @@ module _ {s : List ℕ} {f : Flags} {ns : List ℕ} {p k : ℕ} {ks : List ℕ} 
   unfolding kindsOf
   kinds-are =
       R .kinded ∙ ap (λ (g : Flags). kindsAt (g .transient) (wideIn end (g .l)) (g .c) ns (end - p - spare (g .transient))) (R .flagged)
-      ∙ ap (kindsAt (isTransient (view s 0 4)) (wideIn end (flagL (view s 0 4))) (flagC (view s 0 4)) ns) (budget-is s end (O .four) ns p (O .said) (O .far) inside)
+      ∙ ap (kindsAt (isTransient (view s 0 4)) (wideIn end (flagL (view s 0 4))) (flagC (view s 0 4)) ns)
+      (budget-is s end (O .four) ns p (O .said) (O .far) inside)
 
   pub kinds-800 : length ks ≡ 800
   unfolding kindsAt
@@ -119,7 +133,8 @@ module _ {s : List ℕ} {f : Flags} {ns : List ℕ} {p k : ℕ} {ks : List ℕ} 
         er
         ∙ ap (λ (g : Flags). madeReading mode (length s + 1) g ns z t) (R .flagged)
         ∙ ap (λ (x : ℕ). madeReading mode (x + 1) (flagsOf (view s 0 4)) ns z t) es
-        ∙ ap₂ (λ (x y : ℕ). madeReading mode (modeBytes mode + 1) (flagsOf (view s 0 4)) ns x y) (ez ∙ ap (λ (n : ℕ). val (view s q n)) m) (sym (length-view s (q + k) t))
+        ∙ ap₂ (λ (x y : ℕ). madeReading mode (modeBytes mode + 1) (flagsOf (view s 0 4)) ns x y) (ez ∙ ap (λ (n : ℕ). val (view s q n)) m)
+        (sym (length-view s (q + k) t))
         ∙ ap readingOf (sym (body-got mode))
 
     pub rest-told : {r : Reading} {z : ℕ} (mode : ℕ) → length s ≤ 320 → length s ≡ modeBytes mode → z ≡ val (view s q (min k 16))
@@ -146,14 +161,28 @@ module _ {s : List ℕ} {f : Flags} {ns : List ℕ} {p k : ℕ} {ks : List ℕ} 
 -- ---- what the stages hand on
 
 -- a refusal holds nothing
-pub body-stops : {s : List ℕ} {o : Outcome} {r : Reading} {x : ℕ} {cs : List ℕ} → o ≡ refused x → (x ≡ 0 → ⊥) → r ≡ stoppedAt x 0 → BodyTold s o r cs
+body-stops : {s : List ℕ} {o : Outcome} {r : Reading} {x : ℕ} {cs : List ℕ} → o ≡ refused x → (x ≡ 0 → ⊥) → r ≡ stoppedAt x 0 → BodyTold s o r cs
 body-stops e n er = record { reading = er ∙ ap readingOf (sym e); held = λ z. absurd (n (sym (ap (λ (y : Reading). y .reply) er) ∙ z)) }
 
-pub frame-stops : {src : List ℕ} {o : Outcome} {r : Reading} {x n : ℕ} {cs : List ℕ} → readingOf o ≡ stoppedAt x n → (x ≡ 0 → ⊥) → r ≡ stoppedAt x n → FrameTold src o r cs
+-- flags and norms, as the code reads them
+module _ (s : List ℕ) {f : Flags} {n : NormPart} (long : 80 ≤ length s) (ef : f ≡ flagsOf (view s 0 4))
+    (en : n ≡ partOf 4 (length s * 8 - 4) (normPart (f .transient) (f .n) .read (view s 4 (length s * 8 - 4)))) where
+  norms-said : n ≡ partOf 4 (length s * 8 - 4) (normPart (isTransient (view s 0 4)) (flagN (view s 0 4)) .read (view s 4 (length s * 8 - 4)))
+  norms-said = en ∙ ap (λ (g : Flags). partOf 4 (length s * 8 - 4) (normPart (g .transient) (g .n) .read (view s 4 (length s * 8 - 4)))) ef
+
+  pub norms-stop : {r : Reading} {cs : List ℕ} (mode : ℕ) → (n .reply ≡ 0 → ⊥) → r ≡ stoppedAt (n .reply) 0 → BodyTold s (readBody mode s) r cs
+  norms-stop mode z er = body-stops (norms-refused s long n norms-said z mode) z er
+
+  pub norms-open : n .reply ≡ 0 → Opened s (n .norms) (n .next)
+  norms-open z = norms-opened s long n norms-said z
+
+frame-stops : {src : List ℕ} {o : Outcome} {r : Reading} {x n : ℕ} {cs : List ℕ} → readingOf o ≡ stoppedAt x n → (x ≡ 0 → ⊥) → r ≡ stoppedAt x n
+    → FrameTold src o r cs
 frame-stops e n er = record { reading = er ∙ sym e; held = λ z. absurd (n (sym (ap (λ (y : Reading). y .reply) er) ∙ z)) }
 
 -- what a body of n bytes tells, the frame tells
-pub frame-told : {src s : List ℕ} {o u : Outcome} {r : Reading} {cs : List ℕ} (n : ℕ) → n < length src → s ≡ bodyOf n src → u ≡ o → BodyTold s u r cs → FrameTold src o r cs
+pub frame-told : {src s : List ℕ} {o u : Outcome} {r : Reading} {cs : List ℕ} (n : ℕ) → n < length src → s ≡ bodyOf n src → u ≡ o → BodyTold s u r cs
+    → FrameTold src o r cs
 frame-told {src} {s} {o} {u} {r} {cs} n h es eu B = record { reading = B .reading ∙ ap readingOf eu; held = go }
   where
     go : r .reply ≡ 0 → (r .next ≤ length src) × Held (bodyOf (r .next - 1) src) o r cs
@@ -163,45 +192,100 @@ frame-told {src} {s} {o} {u} {r} {cs} n h es eu B = record { reading = B .readin
         let m : n ≡ r .next - 1 = omega (arith, H .next, l) in
         (omega (arith, H .next, l), rw (← m, ← es, ← eu) H)
 
+-- a frame with data: a field of n bytes that names a mode m
+pub record Ready (s : List ℕ) (m : ℕ) : Type 0 where
+  pub least : 80 ≤ length s
+  pub most : length s ≤ 320
+  pub mode : length s ≡ modeBytes m
+
+module _ (src : List ℕ) (f : Length) {n : ℕ} (en : n ≡ lengthBytes (f .0)) where
+  pub data-stops : {r : Reading} {cs : List ℕ} → length src ≤ n → r ≡ stoppedAt cut 0 → FrameTold src (started (Data f) src) r cs
+  data-stops h er = frame-stops (ap readingOf (data-cut src f n en h)) (λ z. omega arith) er
+
+  module _ {named : Rate} {m : Mode} (ep : Data f ≡ prefixOf src) (h : n < length src) (e : named ≡ modeOf (f .0)) (em : named ≡ rate.Is m) where
+    mode-is : m .0 ≡ f .0 - 8
+    mode-is = field-mode src f ep m (sym e ∙ em)
+
+    pub data-ready : Ready (take (n + 1 - 1) (drop 1 src)) (m .0)
+    data-ready =
+        let z = field-sized src f n ep en in
+        let l = ap length (body-part src n h) ∙ length-body src n h in
+        record { least = omega (arith, l, z .least); most = omega (arith, l, z .most); mode = l ∙ z .mode ∙ ap modeBytes (sym mode-is) }
+
+    pub data-told : {r : Reading} {cs : List ℕ} → BodyTold (take (n + 1 - 1) (drop 1 src)) (readBody (m .0) (take (n + 1 - 1) (drop 1 src))) r cs
+        → FrameTold src (started (Data f) src) r cs
+    data-told B =
+        let p = body-part src n h in
+        frame-told n h p (ap₂ readBody mode-is p ∙ sym (data-whole src f n en h)) B
+
 -- what a prefix tells that is the slice's own
-pub prefix-told : {src : List ℕ} {p : Prefix} {r : Reading} {cs : List ℕ} → p ≡ prefixOf src → FrameTold src (started p src) r cs → FrameTold src (started (prefixOf src) src) r cs
+pub prefix-told : {src : List ℕ} {p : Prefix} {r : Reading} {cs : List ℕ} → p ≡ prefixOf src → FrameTold src (started p src) r cs
+    → FrameTold src (started (prefixOf src) src) r cs
 prefix-told e F = rw (← e) F
+
+module _ {src : List ℕ} {p : Prefix} {r : Reading} {cs : List ℕ} (ep : p ≡ prefixOf src) where
+  pub stops-no-byte : p ≡ NoByte → r ≡ stoppedAt noByte 0 → FrameTold src (started (prefixOf src) src) r cs
+  stops-no-byte e er = prefix-told (sym e ∙ ep) (frame-stops refl (λ z. omega arith) er)
+
+  pub stops-marked : p ≡ Marked → r ≡ stoppedAt marked 0 → FrameTold src (started (prefixOf src) src) r cs
+  stops-marked e er = prefix-told (sym e ∙ ep) (frame-stops refl (λ z. omega arith) er)
+
+  pub stops-reserved : p ≡ Reserved → r ≡ stoppedAt reserved 0 → FrameTold src (started (prefixOf src) src) r cs
+  stops-reserved e er = prefix-told (sym e ∙ ep) (frame-stops refl (λ z. omega arith) er)
+
+  pub stops-no-data : p ≡ NoData → r ≡ stoppedAt noData 1 → FrameTold src (started (prefixOf src) src) r cs
+  stops-no-data e er = prefix-told (sym e ∙ ep) (frame-stops refl (λ z. omega arith) er)
 
 -- ---- what is given out
 
 -- the reading, and the lent slices afterwards
-pub record Given (o : Outcome) (c c₀ t t₀ : List ℕ) (r : Reading) : Type 0 where
-  pub reading : r ≡ readingOf o
-  pub codes : c ≡ codesAfter c₀ o
-  pub tail : t ≡ tailAfter t₀ o
+abbrev pub Given : Outcome → List ℕ → List ℕ → List ℕ → List ℕ → Reading → Type 0
+Given o c c₀ t t₀ r = (r ≡ readingOf o) × (c ≡ codesAfter c₀ o) × (t ≡ tailAfter t₀ o)
 
-pub given-room : {o : Outcome} {c t : List ℕ} {r : Reading} {x : ℕ} → o ≡ refused x → r ≡ stoppedAt x 0 → Given o c c t t r
-given-room e er = record { reading = rw e er; codes = rw e; tail = rw e }
+-- where the body and its tail stand
+pub record Placed (src : List ℕ) (r : Reading) : Type 0 where
+  pub one : 1 ≤ r .next
+  pub inside : r .next ≤ length src
+  pub near : r .next ≤ 321
+  pub tail : r .«record» .«tail_bits» ≤ (r .next - 1) * 8
 
--- only a reading of 0 changes lent memory
 module _ {src : List ℕ} {r : Reading} {cs : List ℕ} where
-  pub given-stopped : {o a : Outcome} {c t : List ℕ} → a ≡ o → FrameTold src o r cs → (r .reply ≡ 0 → ⊥) → Given a c c t t r
-  given-stopped {o = refused x} e F n = record { reading = rw e (F .reading); codes = rw e; tail = rw e }
-  given-stopped {o = empty} e F n = record { reading = rw e (F .reading); codes = rw e; tail = rw e }
-  given-stopped {o = sound mode x} e F n = absurd (n (ap (λ (y : Reading). y .reply) (F .reading)))
+  stopped-of : {o a : Outcome} {c t : List ℕ} → a ≡ o → FrameTold src o r cs → (r .reply ≡ 0 → ⊥) → Given a c c t t r
+  stopped-of {o = refused x} e F n = (rw e (F .reading), (rw e), (rw e))
+  stopped-of {o = empty} e F n = (rw e (F .reading), (rw e), (rw e))
+  stopped-of {o = sound mode x} e F n = absurd (n (ap (λ (y : Reading). y .reply) (F .reading)))
 
-  module _ {o : Outcome} (F : FrameTold src o r cs) (z : r .reply ≡ 0) where
-    body-long : length (bodyOf (r .next - 1) src) ≡ r .next - 1
-    body-long = omega (arith, F .held z .1 .next)
+  body-long : {o : Outcome} → FrameTold src o r cs → r .reply ≡ 0 → length (bodyOf (r .next - 1) src) ≡ r .next - 1
+  body-long F z = omega (arith, F .held z .1 .next)
 
-    -- where the body and its tail stand
-    pub given-place : (1 ≤ r .next) × (r .next ≤ length src) × (r .next ≤ 321) × (r .«record» .«tail_bits» ≤ (r .next - 1) * 8)
-    given-place =
+  pub given-place : {o : Outcome} → FrameTold src o r cs → r .reply ≡ 0 → Placed src r
+  given-place F z =
+      let H = F .held z .1 in
+      record { one = omega (arith, H .next); inside = F .held z .0; near = omega (arith, H .next, H .small); tail = omega (arith, body-long F z, H .inside) }
+
+  -- with room enough the frame decides, and only a reading of 0 changes lent memory
+  module _ (c₀ t₀ : List ℕ) (h : 800 ≤ length c₀) (l : 320 ≤ length t₀) (F : FrameTold src (started (prefixOf src) src) r cs) where
+    pub given-stopped : (r .reply ≡ 0 → ⊥) → Given (readAnswer src (length c₀) (length t₀)) c₀ c₀ t₀ t₀ r
+    given-stopped n = stopped-of (read-started src _ _ h l _ refl) F n
+
+    pub given-done : {c t : List ℕ} → r .reply ≡ 0 → c ≡ cs ++ drop 800 c₀
+        → t ≡ tailFrom (bodyOf (r .next - 1) src) ((r .next - 1) * 8 - r .«record» .«tail_bits») ++ drop 320 t₀
+        → Given (readAnswer src (length c₀) (length t₀)) c c₀ t t₀ r
+    given-done z ec et =
         let H = F .held z .1 in
-        (omega (arith, H .next), F .held z .0, omega (arith, H .next, H .small), omega (arith, body-long, H .inside))
+        rw (read-started src _ _ h l _ refl) (
+          F .reading,
+          ec ∙ H .codes c₀,
+          et ∙ ap (λ (n : ℕ). tailFrom (bodyOf (r .next - 1) src) (n * 8 - r .«record» .«tail_bits») ++ drop 320 t₀) (sym (body-long F z)) ∙ H .tail t₀,
+        )
 
-    pub given-done : {a : Outcome} {c c₀ t t₀ : List ℕ} → a ≡ o → c ≡ cs ++ drop 800 c₀
-        → t ≡ tailFrom (bodyOf (r .next - 1) src) ((r .next - 1) * 8 - r .«record» .«tail_bits») ++ drop 320 t₀ → Given a c c₀ t t₀ r
-    given-done {c₀ = c₀} {t₀ = t₀} e ec et =
-        let H = F .held z .1 in
-        rw e
-        (record {
-          reading = F .reading;
-          codes = ec ∙ H .codes c₀;
-          tail = et ∙ ap (λ (n : ℕ). tailFrom (bodyOf (r .next - 1) src) (n * 8 - r .«record» .«tail_bits») ++ drop 320 t₀) (sym body-long) ∙ H .tail t₀;
-        })
+-- ---- codes copied over
+
+module _ {source target₀ target : List ℕ} {n i : ℕ} (C : Copied source target₀ n target i) (l : length source ≡ n) where
+  pub copy-turn : i < n → n ≤ length target₀ → Copied source target₀ n (set target i (getD source i 0)) (i + 1)
+  copy-turn h m = copied-more source target₀ n target i h (omega arith) m C
+
+  pub copy-end : n ≤ i → target ≡ source ++ drop n target₀
+  copy-end h =
+      let e : i ≡ n = omega (arith, C .upto) in
+      C .same ∙ ap (λ (k : ℕ). take k source ++ drop k target₀) e ∙ ap (λ (x : List ℕ). x ++ drop n target₀) (take-all n source (omega arith))

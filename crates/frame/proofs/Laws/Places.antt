@@ -62,7 +62,8 @@ module _ (s : List ℕ) (end : ℕ) (four : 4 ≤ end) where
   t = isTransient (view s 0 4)
 
   -- the norms are refused
-  pub frame-no : (x : Refusal) → normPart (isTransient (view s 0 4)) (flagN (view s 0 4)) .read (view s 4 (end - 4)) ≡ no x → frame end .read (view s 0 end) ≡ no x
+  pub frame-no : (x : Refusal) → normPart (isTransient (view s 0 4)) (flagN (view s 0 4)) .read (view s 4 (end - 4)) ≡ no x
+      → frame end .read (view s 0 end) ≡ no x
   unfolding frame
   frame-no x e = rw (flags-at, e)
 
@@ -110,7 +111,8 @@ module _ (s : List ℕ) (end : ℕ) (four : 4 ≤ end) where
         tail-is : tailLeft end (view s 0 4) ns vs ≡ end - (q + K)
         unfolding tailLeft codeBits
         tail-is =
-            let z : length (writeAll (map coding (kindsOf end (view s 0 4) ns)) vs) ≡ length (writeAll (map coding ks) vs) = ap (λ (l : List ℕ). length (writeAll (map coding l) vs)) (sym es) in
+            let z : length (writeAll (map coding (kindsOf end (view s 0 4) ns)) vs) ≡ length (writeAll (map coding ks) vs) = ap
+            (λ (l : List ℕ). length (writeAll (map coding l) vs)) (sym es) in
             omega (arith, budget-is)
 
         tail-at : raw (tailLeft end (view s 0 4) ns vs) .read (view s (q + K) (end - (q + K))) ≡ got (view s (q + K) (end - (q + K))) []
@@ -130,7 +132,8 @@ module _ (s : List ℕ) (end : ℕ) (four : 4 ≤ end) where
 
     -- the codes are refused
     abbrev Not : ℕ → Type 0
-    Not k = (ks : List ℕ) → ks ≡ kindsOf end (view s 0 4) ns → p + k ≤ end → (x : Refusal) → runAt s p (end - k) ks ≡ no x → frame end .read (view s 0 end) ≡ no x
+    Not k =
+        (ks : List ℕ) → ks ≡ kindsOf end (view s 0 4) ns → p + k ≤ end → (x : Refusal) → runAt s p (end - k) ks ≡ no x → frame end .read (view s 0 end) ≡ no x
 
     pub frame-not : (k : ℕ) → k ≡ spare (isTransient (view s 0 4)) → Not k
     frame-not k ek = subst⁻¹ Not ek not-K

@@ -1,4 +1,5 @@
--- 01: 6 is "word 1111110 in the 5-bit column", 7 is "codes go past Ψ". Our reading: with FlagC 0 there is neither 6 nor 7. All codes are fixed codes then; their
+-- 01: 6 is "word 1111110 in the 5-bit column", 7 is "codes go past Ψ". Our reading: with FlagC 0 there is neither 6 nor 7. All codes are fixed codes then;
+-- their
 -- widths are the bits that the allotment gave, at most Ψ by demand 3; and the norms find their words in any body.
 -- Assumes nothing.
 use mathlib.Core.Path.{_≡_, refl, sym, ap, _∙_}
@@ -38,7 +39,8 @@ use Rattle.norms.proofs.Laws.Part.{norm-bits}
 use Rattle.norms.proofs.Laws.Answers.{writable-range}
 use Rattle.norms.proofs.Laws.Sure.{norms-alone}
 use Rattle.kinds.specs.Kinds.{kinds}
-use Rattle.frame.specs.Layout.{Frame, isTransient, flagL, flagN, flagC, budgetOf, kindsOf, codeBits, tailLeft, codesPart, endingPart, ending-long, restPart, normsAndRest, frame}
+use Rattle.frame.specs.Layout.{Frame, isTransient, flagL, flagN, flagC, budgetOf, kindsOf, codeBits, tailLeft, codesPart, endingPart, ending-long}
+use Rattle.frame.specs.Layout.{restPart, normsAndRest, frame}
 use Rattle.kinds.specs.Budget.{spare, wideIn, kindsAt}
 use Rattle.kinds.proofs.Laws.Budget.{spare-le}
 use Rattle.kinds.proofs.Laws.Fixed.{kinds-sum, kinds-small}
@@ -79,7 +81,8 @@ module _ (total : ℕ) (flags : List Bool) (norms : List ℕ) (c : flagC flags �
   paid : sumOf (kindsOf total flags norms) ≤ budgetOf total flags norms
   paid = omega (arith, ap sumOf plain-kinds, kinds-sum rates, fair .sum)
 
-  pub plain-bits : (vs : List ℕ) → length vs ≡ length (kindsOf total flags norms) → length (writeAll (map coding (kindsOf total flags norms)) vs) ≤ budgetOf total flags norms
+  pub plain-bits : (vs : List ℕ) → length vs ≡ length (kindsOf total flags norms)
+      → length (writeAll (map coding (kindsOf total flags norms)) vs) ≤ budgetOf total flags norms
   plain-bits vs l = omega (arith, ap (λ (cs : List Coding). length (writeAll cs vs)) all-plain, fixed-bits ks vs l, paid)
 
   -- ---- the rest of a frame
@@ -90,7 +93,8 @@ module _ (total : ℕ) (flags : List Bool) (norms : List ℕ) (c : flagC flags �
       let (vs, r, g) = read-sure ks (map fixed ks) (all-fixed ks) u (omega (arith, paid)) in
       sound-alone (readAll (map coding ks) u) vs r (ap (λ (cs : List Coding). readAll cs u) all-plain ∙ g)
 
-  ending-alone : (vs : List ℕ) (r : List Bool) → spare (isTransient flags) + tailLeft total flags norms vs ≤ length r → NormAlone (endingPart total flags norms vs .read r)
+  ending-alone : (vs : List ℕ) (r : List Bool) → spare (isTransient flags) + tailLeft total flags norms vs ≤ length r
+      → NormAlone (endingPart total flags norms vs .read r)
   ending-alone vs r l =
       let n = spare t in
       let m = tailLeft total flags norms vs in
@@ -150,7 +154,8 @@ pub body-five : (mode x : ℕ) (body : List ℕ) → 80 ≤ length body → leng
     → x ≡ normOutside
 unfolding readBody
 body-five mode x body lo hi c e =
-    outcome-five mode x (frame (length body * 8) .read (bitsOf body)) (frame-alone (length body * 8) (omega arith) (omega arith) (bitsOf body) (length-bits body) c) e
+    outcome-five mode x (frame (length body * 8) .read (bitsOf body))
+    (frame-alone (length body * 8) (omega arith) (omega arith) (bitsOf body) (length-bits body) c) e
 
 -- ---- the whole reading
 
@@ -179,7 +184,8 @@ started-plain src x c (Data f) q e =
     (λ t.
     let l = ltb-true n (length src) t in
     let k = length-body src n l in
-    let five = body-five (f .0 - 8) x (bodyOf n src) (omega (arith, s .least)) (omega (arith, s .most)) (first-byte n (drop 1 src) (omega (arith, s .least)) ∙ c)
+    let five = body-five (f .0 - 8) x (bodyOf n src) (omega (arith, s .least)) (omega (arith, s .most)) (first-byte n (drop 1 src) (omega (arith, s .least))
+    ∙ c)
     (sym (data-whole src f n refl l) ∙ e) in
     (λ z. omega arith, λ z. omega arith))
     (λ t. other 4 x (λ z. omega arith, λ z. omega arith) (sym (data-cut src f n refl (ltb-false n (length src) t)) ∙ e))

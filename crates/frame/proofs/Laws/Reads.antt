@@ -1,4 +1,4 @@
--- Laws of specs/Reads.
+-- What reading tells stage by stage: the flags, the norms that are refused or opened, the data behind the prefix byte.
 -- Assumes nothing.
 use mathlib.Core.Path.{_≡_, refl, sym, ap, ap₂, _∙_}
 use mathlib.Core.Bool.{Bool, true, false}
@@ -41,11 +41,14 @@ one-bit : (b : Bool) → eqb (num b * 1 + 0) 1 ≡ b
 one-bit true = refl
 one-bit false = refl
 
-pub flag-is : (s : List ℕ) (i : ℕ) → eqb (val (view s i (min 1 16))) 1 ≡ bit s i
+flag-is : (s : List ℕ) (i : ℕ) → eqb (val (view s i (min 1 16))) 1 ≡ bit s i
 unfolding view val
 flag-is s i = one-bit (bit s i)
 
-pub flags-are : (s : List ℕ) → record { transient = bit s 0; l = bit s 1; n = bit s 2; c = bit s 3 } ≡ flagsOf (view s 0 4)
+pub flag-made : (s : List ℕ) (i z : ℕ) → z ≡ val (view s i (min 1 16)) → eqb z 1 ≡ bit s i
+flag-made s i z e = ap (λ (x : ℕ). eqb x 1) e ∙ flag-is s i
+
+flags-are : (s : List ℕ) → record { transient = bit s 0; l = bit s 1; n = bit s 2; c = bit s 3 } ≡ flagsOf (view s 0 4)
 unfolding view
 flags-are s = refl
 

@@ -77,7 +77,8 @@ pub placed : {k : ℕ} {a : List ℕ} (s : List ℕ) → Frames k a → placeOf 
 unfolding placeFrom
 placed s none = refl
 placed s (more {k} {f} {s = a} w fs) =
-    ap (λ (t : List ℕ). placeOf t (1 + k)) (append-assoc f a s) ∙ place-next f (a ++ s) w k ∙ ap (λ (p : ℕ). length f + p) (placed s fs) ∙ sym (length-append f a)
+    ap (λ (t : List ℕ). placeOf t (1 + k)) (append-assoc f a s) ∙ place-next f (a ++ s) w k ∙ ap (λ (p : ℕ). length f + p) (placed s fs)
+    ∙ sym (length-append f a)
 
 pub placed-all : {k : ℕ} {s : List ℕ} → Frames k s → placeOf s k ≡ length s
 placed-all {k} {s} fs = ap (λ (t : List ℕ). placeOf t k) (sym (append-nil s)) ∙ placed [] fs
@@ -160,7 +161,8 @@ frames-long (more {k} {f} {s} a fs) = omega (arith, frames-long fs, frame-lawful
 pub frames-of : {k : ℕ} {s : List ℕ} → Frames k s → framesOf s ≡ table k (frameAt s)
 unfolding framesOf
 frames-of {k} {s} fs =
-    let w : walk (length s) s ≡ ahead k (length s) (walk (length s - k) []) = ap (walk (length s)) (sym (append-nil s)) ∙ walk-units frame-lawful (length s) [] fs (frames-long fs) in
+    let w : walk (length s) s ≡ ahead k (length s) (walk (length s - k) []) = ap (walk (length s)) (sym (append-nil s))
+    ∙ walk-units frame-lawful (length s) [] fs (frames-long fs) in
     let c : walk (length s) s .count ≡ k =
     ap (λ (x : Check). x .count) (w ∙ ap (ahead k (length s)) (walk-end frameStep (length s - k) [] refl) ∙ ahead-stopped k (length s) done) in
     ap (λ (n : ℕ). table n (frameAt s)) c

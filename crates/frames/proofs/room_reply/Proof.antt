@@ -1,4 +1,4 @@
--- `blocks::room_reply` meets its contract: the count of channels, then each room. Assumes nothing.
+-- `frames::room_reply` meets its contract: the count of channels, then each room. Assumes nothing.
 use borrow.Author.Needs.{needs}
 use borrow.Author.Tests.{not-true, not-false}
 use mathlib.Core.Bool.{true}

@@ -3,7 +3,7 @@ use borrow.Author.Needs.{needs}
 use mathlib.Core.Path.{_≡_, sym, ap, _∙_}
 use native.Mathlib.Omega.{arith}
 use denote.Ref.{now}
-use lib.ListN.{length, drop, length-drop}
+use lib.ListN.{drop, length-drop}
 use Rattle.prefix.specs.Prefix.{prefixOf}
 use Rattle.recording.proofs.Laws.Turns.{lent}
 use Rattle.frames.specs.Places.{saidBytes}

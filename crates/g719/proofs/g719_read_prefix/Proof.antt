@@ -5,14 +5,8 @@ use Rattle.boundary.specs.Numbers.{prefixNumbers}
 use Rattle.g719.proofs.g719_read_prefix.Statement.{statement}
 use Rattle.g719.proofs.g719_read_prefix.Tie as tie
 
-read-prefix-requires : tie.Need-read-prefix-requires
-read-prefix-requires c κs = search needs
-
-prefix-numbers-requires : tie.Need-prefix-numbers-requires
-prefix-numbers-requires c κs = search needs
-
 returns : tie.Need-returns
 returns c = c .prefix-numbers .ensures ∙ ap prefixNumbers (c .before .read-prefix .ensures)
 
 pub g719-read-prefix-spec : {M : Type 1} → statement M
-g719-read-prefix-spec = tie.close (tie.spec read-prefix-requires prefix-numbers-requires returns)
+g719-read-prefix-spec = tie.close (tie.spec (λ c κs. search needs) (λ c κs. search needs) returns)

@@ -5,14 +5,8 @@ use Rattle.boundary.specs.Numbers.{byteNumbers}
 use Rattle.g719.proofs.g719_write_prefix.Statement.{statement}
 use Rattle.g719.proofs.g719_write_prefix.Tie as tie
 
-write-prefix-requires : tie.Need-write-prefix-requires
-write-prefix-requires c κs = search needs
-
-byte-numbers-requires : tie.Need-byte-numbers-requires
-byte-numbers-requires c κs = search needs
-
 returns : tie.Need-returns
 returns c = c .byte-numbers .ensures ∙ ap byteNumbers (c .before .write-prefix .ensures)
 
 pub g719-write-prefix-spec : {M : Type 1} → statement M
-g719-write-prefix-spec = tie.close (tie.spec write-prefix-requires byte-numbers-requires returns)
+g719-write-prefix-spec = tie.close (tie.spec (λ c κs. search needs) (λ c κs. search needs) returns)

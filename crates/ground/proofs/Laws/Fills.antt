@@ -8,7 +8,7 @@ use native.Mathlib.Decide.{ℕ-discrete, decLt}
 use borrow.Author.Count.{below-more}
 use lib.ListN.{length, getD, set, length-set, List·getD-eq-default}
 use lib.Seq.{getD-set-same, getD-set-other}
-use Rattle.ground.specs.Fills.{from}
+use Rattle.ground.specs.Fills.{from, table, filled}
 
 -- two rules that agree at each place make one table
 module _ {A : Type 0} where
@@ -60,7 +60,8 @@ module _ {A : Type 0} where
       (g (i + 6) (omega arith) (omega arith)))
       (g (i + 7) (omega arith) (omega arith))
     where
-      next : (m : List A) (j j′ : ℕ) (x : A) → j < length m → j′ ≡ j + 1 → ((k : ℕ) → k < j → getD m k d ≡ f k) → x ≡ f j → (k : ℕ) → k < j′ → getD (set m j x) k d ≡ f k
+      next : (m : List A) (j j′ : ℕ) (x : A) → j < length m → j′ ≡ j + 1 → ((k : ℕ) → k < j → getD m k d ≡ f k) → x ≡ f j → (k : ℕ) → k < j′
+          → getD (set m j x) k d ≡ f k
       next m j j′ x c q p r k u = fill f d m j x c p r k (omega arith)
 
   -- downwards: places from i on are filled, and place j just below them is next

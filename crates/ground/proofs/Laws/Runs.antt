@@ -108,7 +108,8 @@ module _ {A : Type 0} where
   pub length-part : (k : ℕ) (l : List A) (c : ℕ) → c * k + k ≤ length l → length (part k l c) ≡ k
   length-part k l c h = length-take-le k (drop (c * k) l) (omega (arith, length-drop (c * k) l))
 
-  pub parted-more : {k : ℕ} {f : ℕ → List A} {l₀ l : List A} {c m : ℕ} {ys : List A} → Parted k f l₀ l c → m ≡ k → c * k + k ≤ length l₀ → length ys ≡ k → ys ≡ f c
+  pub parted-more : {k : ℕ} {f : ℕ → List A} {l₀ l : List A} {c m : ℕ} {ys : List A} → Parted k f l₀ l c → m ≡ k → c * k + k ≤ length l₀ → length ys ≡ k
+      → ys ≡ f c
       → Parted k f l₀ (backed l (c * k) m ys) (c + 1)
   parted-more {k} {f} {l₀} {l} {c} {m} {ys} r e h n y =
       let p : take (c * k) l ≡ runs c f = ap (take (c * k)) (r .same) ∙ take-at (runs c f) (drop (c * k) l₀) (c * k) (r .front) in

@@ -20,6 +20,10 @@ pub sum-more : (f : ℕ → ℕ) (n : ℕ) → sumTo f (n + 1) ≡ sumTo f n + f
 unfolding sumTo
 sum-more f n = rw add-one
 
+-- one turn of a loop that adds
+pub sum-next : (f : ℕ → ℕ) (i : ℕ) {sum x : ℕ} → sum ≡ sumTo f i → x ≡ f i → sum + x ≡ sumTo f (i + 1)
+sum-next f i e ex = omega (arith, sum-more f i)
+
 pub sum-front : (f : ℕ → ℕ) (n : ℕ) → sumTo f (suc n) ≡ f 0 + sumTo (λ p. f (suc p)) n
 unfolding sumTo
 sum-front f zero = omega arith

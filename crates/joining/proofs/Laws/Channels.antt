@@ -11,14 +11,19 @@ use Rattle.ground.proofs.Laws.Runs.{runs-same}
 use Rattle.recording.specs.Frames.{Frames}
 use Rattle.recording.specs.Blocks.{Blocks}
 use Rattle.frames.specs.Places.{frameAt}
-use Rattle.frames.proofs.Laws.Frames.{frame-stored, frames-made, frame-made, frames-back, blocks-frames, frames-blocks, blocks-made, frame-in-block, runs-blocks}
+use Rattle.frames.proofs.Laws.Frames.{frame-stored, frames-made, frame-made, frames-back, blocks-frames, frames-blocks, blocks-made, frame-in-block}
+use Rattle.frames.proofs.Laws.Frames.{runs-blocks}
 use Rattle.channels.specs.Copies.{extracted}
 use Rattle.joining.specs.Joining.{joined}
 
 rows : (b k n : ℕ) → b < k → b * n + n ≤ k * n
 rows b zero n h = absurd (omega arith)
 rows b (suc k) n h =
-    elim (decLt b k) [ yes l ↦ omega (arith, rows b k n l, suc-mul k n) | no l ↦ (let e : b ≡ k = omega (arith, l) in omega (arith, ap (λ (j : ℕ). j * n) e, suc-mul k n)) ]
+    elim (decLt b k) [
+      | yes l ↦ omega (arith, rows b k n l, suc-mul k n)
+      | no l ↦
+          (let e : b ≡ k = omega (arith, l) in omega (arith, ap (λ (j : ℕ). j * n) e, suc-mul k n))
+    ]
 
 -- n recordings of k frames each
 module _ (n k : ℕ) (r : ℕ → List ℕ) (h : (c : ℕ) → c < n → Frames k (r c)) where
@@ -50,5 +55,6 @@ module _ (n k : ℕ) (s : List ℕ) (B : Blocks n k s) where
   pub joined-extracted : joined n k (λ c. extracted n c k s) ≡ s
   joined-extracted =
       runs-same _ (λ b. runs n (λ c. frameAt s (b * n + c))) k
-      (λ b l. runs-same _ (λ c. frameAt s (b * n + c)) n (λ c d. frame-made (λ j. frameAt s (j * n + c)) k b (λ j a. frame-stored frames (j * n + c) (index j c a d)) l))
+      (λ b l. runs-same _ (λ c. frameAt s (b * n + c)) n
+      (λ c d. frame-made (λ j. frameAt s (j * n + c)) k b (λ j a. frame-stored frames (j * n + c) (index j c a d)) l))
       ∙ runs-blocks (frameAt s) n k ∙ frames-back frames

@@ -39,7 +39,8 @@ unfolding refusedIn
 refused-none w zero h = refl
 refused-none w (suc n) h =
     let r = refused-none w n (λ c b. h c (omega arith)) in
-    ap (λ (a : Copied). firstCopy a (cond (eqb (w n .reply) 0) (refusedCopy done) (stoppedCopy (w n) (n + 1)))) r ∙ rw (eq-eqb (w n .reply) 0 (h n (omega arith))) refl
+    ap (λ (a : Copied). firstCopy a (cond (eqb (w n .reply) 0) (refusedCopy done) (stoppedCopy (w n) (n + 1)))) r
+    ∙ rw (eq-eqb (w n .reply) 0 (h n (omega arith))) refl
 
 counts-made : (w : ℕ → Check) (k n : ℕ) → ((c : ℕ) → c < n → w c .count ≡ k) → equalCounts w k n ≡ true
 unfolding equalCounts
@@ -97,8 +98,13 @@ module _ (src lengths : List ℕ) (room : ℕ) where
       (λ u. absurd (let g : rest ≡ refusedCopy shortRoom = rw u refl in let y = sym (ap (λ (x : Copied). x .reply) g) ∙ f .1 in omega (arith, y)))
       (λ u.
       let g : rest ≡ madeCopy done 0 (w 0 .count) 0 (length (joinedOf src lengths)) = rw u refl in
-      record { joinable = all-checked (f .0) i (ltb-false (length src) (startOf lengths m) t); room-for = ltb-false room (length (joinedOf src lengths)) u; answer = a ∙ b ∙ d ∙ g })))
-      (λ i. absurd (let a : joinAnswer src lengths room ≡ refusedCopy wrongChannels = rw i refl in let y = sym (ap (λ (x : Copied). x .reply) a) ∙ e in omega (arith, y)))
+      record {
+        joinable = all-checked (f .0) i (ltb-false (length src) (startOf lengths m) t);
+        room-for = ltb-false room (length (joinedOf src lengths)) u;
+        answer = a ∙ b ∙ d ∙ g;
+      })))
+      (λ i. absurd (let a : joinAnswer src lengths room ≡ refusedCopy wrongChannels = rw i refl in
+      let y = sym (ap (λ (x : Copied). x .reply) a) ∙ e in omega (arith, y)))
 
   -- recordings that are joined
   module _ (k : ℕ) (J : Joinable src lengths k) where
@@ -116,7 +122,8 @@ module _ (src lengths : List ℕ) (room : ℕ) where
     joined-length =
         let y : Lying src lengths = record { few = J .most; inside = J .inside } in
         ap length joined-is ∙ length-joined (length lengths) k (recordingAt src lengths)
-        ∙ sum-same (λ c. placeOf (recordingAt src lengths c) k) (nth lengths) (length lengths) (λ c h. placed-all (J .sound c h) ∙ length-recording src lengths y c h)
+        ∙ sum-same (λ c. placeOf (recordingAt src lengths c) k) (nth lengths) (length lengths) (λ c h. placed-all (J .sound c h)
+        ∙ length-recording src lengths y c h)
 
     checked-is : checkAll (ownCheck src lengths) (length lengths) ≡ madeCopy done 0 (ownCheck src lengths 0 .count) 0 0
     unfolding checkAll
@@ -132,7 +139,8 @@ module _ (src lengths : List ℕ) (room : ℕ) where
         let m = length lengths in
         let w = ownCheck src lengths in
         let rest = cond (ltb room (length (joinedOf src lengths))) (refusedCopy shortRoom) (madeCopy done 0 (w 0 .count) 0 (length (joinedOf src lengths))) in
-        let a : joinAnswer src lengths room ≡ firstCopy (checkAll w m) rest = rw (is-counted m (J .some) (J .most), le-ltb (length src) (startOf lengths m) (J .inside)) refl in
+        let a : joinAnswer src lengths room ≡ firstCopy (checkAll w m) rest = rw
+        (is-counted m (J .some) (J .most), le-ltb (length src) (startOf lengths m) (J .inside)) refl in
         let b : firstCopy (checkAll w m) rest ≡ rest = ap (λ (x : Copied). firstCopy x rest) checked-is in
         let d : rest ≡ madeCopy done 0 (w 0 .count) 0 (length (joinedOf src lengths)) = rw (le-ltb room (length (joinedOf src lengths)) h) refl in
         a ∙ b ∙ d ∙ ap (λ (j : ℕ). madeCopy done 0 j 0 (length (joinedOf src lengths))) count-is

@@ -29,7 +29,8 @@ use Rattle.frames.proofs.Laws.Places.{size-inside, place-none, place-more, plac
 use Rattle.frames.proofs.Laws.Frames.{placed-all}
 use Rattle.channels.proofs.Laws.Walks.{walk-sound, own-frames}
 use Rattle.channels.proofs.Laws.Extracting.{length-frame, runs-under}
-use Rattle.joining.specs.Joining.{startOf, recordingAt, ownCheck, blockOf, joined, joinedOf, firstCopy, refusedIn, equalCounts, checkAll, joinAnswer, joinAfter, Lying}
+use Rattle.joining.specs.Joining.{startOf, recordingAt, ownCheck, blockOf, joined, joinedOf, firstCopy, refusedIn, equalCounts, checkAll, joinAnswer}
+use Rattle.joining.specs.Joining.{joinAfter, Lying}
 use Rattle.channels.specs.Copies.{madeCopy, refusedCopy, stoppedCopy}
 use Rattle.joining.specs.Inner.{placesAt, Standing}
 use Rattle.channels.specs.declared.Copied.{Copied}
@@ -159,12 +160,14 @@ module _ {w : ℕ → Check} {first : ℕ} {equal : Bool} {c : ℕ} (A : Alike w
 abbrev pub placeIn : List ℕ → List ℕ → ℕ → ℕ → ℕ
 placeIn src lengths b c = startOf lengths c + placeOf (recordingAt src lengths c) b
 
-pub places-first : (src lengths places : List ℕ) → length lengths ≤ 8 → Fronted (startOf lengths) (replicate 8 0) places (length lengths) → places ≡ placesAt src lengths 0
+pub places-first : (src lengths places : List ℕ) → length lengths ≤ 8 → Fronted (startOf lengths) (replicate 8 0) places (length lengths)
+    → places ≡ placesAt src lengths 0
 places-first src lengths places h F =
     let n = length lengths in
     F .same
     ∙ ap₂ (λ (x y : List ℕ). x ++ y)
-    (table-same (startOf lengths) (placeIn src lengths 0) n 0 (λ c a b. sym (ap (λ (k : ℕ). startOf lengths c + k) (sym (place-none (recordingAt src lengths c) 0)) ∙ add-zero (startOf lengths c))))
+    (table-same (startOf lengths) (placeIn src lengths 0) n 0
+    (λ c a b. sym (ap (λ (k : ℕ). startOf lengths c + k) (sym (place-none (recordingAt src lengths c) 0)) ∙ add-zero (startOf lengths c))))
     (drop-same n 8 0 h)
 
 pub length-places : (src lengths : List ℕ) (b : ℕ) → length lengths ≤ 8 → length (placesAt src lengths b) ≡ 8
@@ -210,7 +213,8 @@ pub record Turning (src lengths out₀ : List ℕ) (b next : ℕ) (out places : 
   pub front : Fronted (placeIn src lengths (b + 1)) (placesAt src lengths b) places c
   pub laid : Laid out₀ next (runs c (λ c. frameAt (recordingAt src lengths c) b)) out to
 
-module _ {src lengths out₀ : List ℕ} {b next : ℕ} {out places : List ℕ} {to c : ℕ} (T : Turning src lengths out₀ b next out places to c) (L : Lying src lengths) (h : c < length lengths) where
+module _ {src lengths out₀ : List ℕ} {b next : ℕ} {out places : List ℕ} {to c : ℕ} (T : Turning src lengths out₀ b next out places to c)
+    (L : Lying src lengths) (h : c < length lengths) where
   abbrev s : List ℕ
   s = recordingAt src lengths c
 
@@ -221,7 +225,9 @@ module _ {src lengths out₀ : List ℕ} {b next : ℕ} {out places : List ℕ} 
   -- behind that, the source up to the recording's end is what is left of the recording
   module _ {end p : ℕ} (eₑ : end ≡ startOf lengths (c + 1)) (eₚ : p ≡ getD places c 0) where
     rest-is : drop p (take end src) ≡ drop (placeOf s b) s
-    rest-is = ap₂ (λ (x y : ℕ). drop x (take y src)) (turn-place eₚ) (eₑ ∙ start-next src lengths c) ∙ drop-front (startOf lengths c) (nth lengths c) (placeOf s b) src
+    rest-is =
+        ap₂ (λ (x y : ℕ). drop x (take y src)) (turn-place eₚ) (eₑ ∙ start-next src lengths c)
+        ∙ drop-front (startOf lengths c) (nth lengths c) (placeOf s b) src
 
     module _ {k : ℕ} (eₖ : k ≡ sizeAt (drop p (take end src))) where
       size-is : k ≡ sizeAt (drop (placeOf s b) s)
@@ -229,18 +235,37 @@ module _ {src lengths out₀ : List ℕ} {b next : ℕ} {out places : List ℕ} 
 
       pub turn-end : p + k ≤ end
       turn-end =
-          omega (arith, size-is, size-inside (drop (placeOf s b) s), length-drop (placeOf s b) s, turn-place eₚ, start-next src lengths c, place-inside s 0 b (omega arith), length-recording src lengths L c h)
+          omega (
+            arith,
+            size-is,
+            size-inside (drop (placeOf s b) s),
+            length-drop (placeOf s b) s,
+            turn-place eₚ,
+            start-next src lengths c,
+            place-inside s 0 b (omega arith),
+            length-recording src lengths L c h,
+          )
 
       -- what is put is the recording's next frame
       text-is : take (p + k - p) (drop p (take end src)) ≡ frameAt s b
       text-is = let n : p + k - p ≡ k = omega arith in ap₂ (λ (x : ℕ) (y : List ℕ). take x y) (n ∙ size-is) rest-is
 
-      pub turn-room : next + length (blockOf (length lengths) (recordingAt src lengths) b) ≤ length out₀ → to + length (take (p + k - p) (drop p (take end src))) ≤ length out
+      pub turn-room : next + length (blockOf (length lengths) (recordingAt src lengths) b) ≤ length out₀
+          → to + length (take (p + k - p) (drop p (take end src))) ≤ length out
       turn-room r =
           let f : ℕ → List ℕ = λ c. frameAt (recordingAt src lengths c) b in
-          omega (arith, T .laid .after, laid-long (T .laid), ap length text-is, ap length (runs-more f c), length-append (runs c f) (f c), runs-under f (c + 1) (length lengths) (omega arith))
+          omega (
+            arith,
+            T .laid .after,
+            laid-long (T .laid),
+            ap length text-is,
+            ap length (runs-more f c),
+            length-append (runs c f) (f c),
+            runs-under f (c + 1) (length lengths) (omega arith),
+          )
 
-      pub turn-more : {after : List ℕ} {on : ℕ} → Laid out to (take (p + k - p) (drop p (take end src))) after on → Turning src lengths out₀ b next after (set places c (p + k)) on (c + 1)
+      pub turn-more : {after : List ℕ} {on : ℕ} → Laid out to (take (p + k - p) (drop p (take end src))) after on
+          → Turning src lengths out₀ b next after (set places c (p + k)) on (c + 1)
       turn-more {after} {on} l =
           let f : ℕ → List ℕ = λ c. frameAt (recordingAt src lengths c) b in
           let e : p + k ≡ placeIn src lengths (b + 1) c = omega (arith, turn-place eₚ, size-is, place-more s 0 b) in
@@ -273,7 +298,8 @@ module _ {src lengths out₀ : List ℕ} {b next : ℕ} {out places : List ℕ} 
     turned-places l =
         let n = length lengths in
         T .front .same ∙ ap (λ (k : ℕ). table k (placeIn src lengths (b + 1)) ++ drop k (placesAt src lengths b)) all-turned
-        ∙ ap (λ (x : List ℕ). table n (placeIn src lengths (b + 1)) ++ x) (drop-at (table n (placeIn src lengths b)) (replicate (8 - n) 0) n (length-from (placeIn src lengths b) n 0))
+        ∙ ap (λ (x : List ℕ). table n (placeIn src lengths (b + 1)) ++ x)
+        (drop-at (table n (placeIn src lengths b)) (replicate (8 - n) 0) n (length-from (placeIn src lengths b) n 0))
 
     pub turned-laid : Laid out₀ next (blockOf (length lengths) (recordingAt src lengths) b) out to
     turned-laid = subst (λ (k : ℕ). Laid out₀ next (runs k (λ c. frameAt (recordingAt src lengths c) b)) out to) all-turned (T .laid)
@@ -302,13 +328,15 @@ module _ {src lengths out₀ : List ℕ} {blocks : ℕ} {out : List ℕ} {t : Tu
   pub joining-long : length out ≡ length out₀
   joining-long = laid-long (J .laid)
 
-  pub joining-stands : Lying src lengths → t .block < blocks → length (joined (length lengths) blocks (recordingAt src lengths)) ≤ length out₀ → Standing src lengths out t
+  pub joining-stands : Lying src lengths → t .block < blocks → length (joined (length lengths) blocks (recordingAt src lengths)) ≤ length out₀
+      → Standing src lengths out t
   joining-stands L h r =
       let b = t .block in
       record {
         lying = L;
         places = J .places;
-        room = omega (arith, J .laid .after, joining-long, ap length (runs-more f b), length-append (runs b f) (f b), runs-under f (b + 1) blocks (omega arith));
+        room = omega
+            (arith, J .laid .after, joining-long, ap length (runs-more f b), length-append (runs b f) (f b), runs-under f (b + 1) blocks (omega arith));
       }
 
   pub joining-more : {after : List ℕ} {t′ : Turn} → t .block < blocks → t′ .block ≡ t .block + 1 → t′ .places ≡ placesAt src lengths (t .block + 1)
@@ -398,7 +426,8 @@ module _ (w : ℕ → Check) where
       (λ t. let d = eqb-false (refusedIn w n .reply) 0 t in absurd (d (sym (same-reply (first-kept (refusedIn w n) own d)) ∙ e)))
 
 -- the joined recording is as long as all together, and has at most 3,000 blocks
-pub joined-long : (src lengths : List ℕ) → Lying src lengths → Common (ownCheck src lengths) (length lengths) → length (joinedOf src lengths) ≡ startOf lengths (length lengths)
+pub joined-long : (src lengths : List ℕ) → Lying src lengths → Common (ownCheck src lengths) (length lengths)
+    → length (joinedOf src lengths) ≡ startOf lengths (length lengths)
 joined-long src lengths L C =
     let n = length lengths in
     let r = recordingAt src lengths in
@@ -420,7 +449,9 @@ module _ (src lengths out : List ℕ) where
   all = checkAll (ownCheck src lengths) n
 
   abbrev whole : Copied
-  whole = cond (ltb (length out) (length (joinedOf src lengths))) (refusedCopy shortRoom) (madeCopy done 0 (ownCheck src lengths 0 .count) 0 (length (joinedOf src lengths)))
+  whole =
+      cond (ltb (length out) (length (joinedOf src lengths))) (refusedCopy shortRoom)
+      (madeCopy done 0 (ownCheck src lengths 0 .count) 0 (length (joinedOf src lengths)))
 
   pub join-uncounted : isCount n ≡ false → joinAnswer src lengths (length out) ≡ refusedCopy wrongChannels
   unfolding joinAnswer
@@ -452,7 +483,8 @@ module _ (src lengths out : List ℕ) where
   join-kept x e h = rw (ne-eqb (joinAnswer src lengths (length out) .reply) 0 (λ z. h (sym (same-reply e) ∙ z)))
 
   -- 0 has the joined recording in front
-  pub join-laid : (x : Copied) → joinAnswer src lengths (length out) ≡ x → x .reply ≡ 0 → joinedOf src lengths ++ drop (length (joinedOf src lengths)) out ≡ joinAfter src lengths out
+  pub join-laid : (x : Copied) → joinAnswer src lengths (length out) ≡ x → x .reply ≡ 0
+      → joinedOf src lengths ++ drop (length (joinedOf src lengths)) out ≡ joinAfter src lengths out
   join-laid x e h = rw (eq-eqb (joinAnswer src lengths (length out) .reply) 0 (same-reply e ∙ h))
 
 -- all recordings were found sound and equal
@@ -480,8 +512,10 @@ module _ {src lengths : List ℕ} (e : isCount (length lengths) ≡ true) (L : L
         ∙ ap₂ (λ (k m : ℕ). madeCopy done 0 k 0 m) (sym count-is) (joined-long src lengths L checked ∙ sym t)
 
     pub found-after : {after : List ℕ}
-        → after ≡ joined (length lengths) (found .count) (recordingAt src lengths) ++ drop (length (joined (length lengths) (found .count) (recordingAt src lengths))) out
+        → after ≡ joined (length lengths) (found .count) (recordingAt src lengths) ++ drop
+        (length (joined (length lengths) (found .count) (recordingAt src lengths))) out
         → after ≡ joinAfter src lengths out
     found-after q =
-        q ∙ ap (λ (k : ℕ). joined (length lengths) k (recordingAt src lengths) ++ drop (length (joined (length lengths) k (recordingAt src lengths))) out) count-is
+        q ∙ ap (λ (k : ℕ). joined (length lengths) k (recordingAt src lengths) ++ drop
+        (length (joined (length lengths) k (recordingAt src lengths))) out) count-is
         ∙ join-laid src lengths out (madeCopy done 0 (found .count) 0 total) found-joined refl

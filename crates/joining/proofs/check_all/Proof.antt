@@ -37,7 +37,8 @@ own w =
     let r : tie.After-start-of Inv-loop μ-loop = search in
     let l : tie.At-loop Inv-loop μ-loop = search in
     let a : tie.Start Inv-loop μ-loop = search in
-    w .walk-blocks .ensures ∙ ap (walkBlocks 1) (part-is (now (a .args .src)) (now (a .args .lengths)) _ _ (l .loop .c) (r .start-of .ensures .0) (s .start-of2 .ensures .0))
+    w .walk-blocks .ensures ∙ ap (walkBlocks 1)
+    (part-is (now (a .args .src)) (now (a .args .lengths)) _ _ (l .loop .c) (r .start-of .ensures .0) (s .start-of2 .ensures .0))
 
 returns : tie.Need-returns Inv-loop μ-loop
 returns c =
@@ -56,7 +57,8 @@ loop-again c =
 
 -- after the last recording
 ended : (l : tie.At-loop Inv-loop μ-loop) → let a : tie.Start Inv-loop μ-loop = search in
-    length (now (a .args .lengths)) ≤ l .loop .c → Alike (ownCheck (now (a .args .src)) (now (a .args .lengths))) (l .loop .first) (l .loop .equal) (length (now (a .args .lengths)))
+    length (now (a .args .lengths)) ≤ l .loop .c
+    → Alike (ownCheck (now (a .args .src)) (now (a .args .lengths))) (l .loop .first) (l .loop .equal) (length (now (a .args .lengths)))
 ended l h =
     let a : tie.Start Inv-loop μ-loop = search in
     let e : l .loop .c ≡ length (now (a .args .lengths)) = omega (arith, l .loop .inv .1) in

@@ -10,7 +10,8 @@ use native.Mathlib.Omega.{arith}
 use Rattle.recording.specs.Blocks.{isCount}
 use Rattle.recording.proofs.Laws.Blocks.{counted}
 use Rattle.joining.specs.Joining.{Lying}
-use Rattle.joining.proofs.Laws.Joining.{join-uncounted, join-past, join-stopped, join-kept, same-reply, found-few, found-long, found-short, found-joined, found-after}
+use Rattle.joining.proofs.Laws.Joining.{join-uncounted, join-past, join-stopped, join-kept, same-reply, found-few, found-long, found-short, found-joined}
+use Rattle.joining.proofs.Laws.Joining.{found-after}
 use Rattle.joining.proofs.join.Statement.{statement}
 use Rattle.joining.proofs.join.Tie as tie
 
@@ -51,8 +52,11 @@ returns-3 c =
     let t : tie.Else2 = search in
     let e : tie.Else1 = search in
     let a : tie.Start = search in
-    let q = join-stopped (now (a .args .src)) (now (a .args .lengths)) (now (a .args .out)) (few e) (lying t .inside) (λ z. omega (arith, same-reply (f .check-all .ensures))) in
-    (f .check-all .ensures ∙ sym q, join-kept (now (a .args .src)) (now (a .args .lengths)) (now (a .args .out)) _ q (λ z. omega (arith, same-reply (f .check-all .ensures))))
+    let q = join-stopped (now (a .args .src)) (now (a .args .lengths)) (now (a .args .out)) (few e) (lying t .inside)
+    (λ z. omega (arith, same-reply (f .check-all .ensures))) in (
+      f .check-all .ensures ∙ sym q,
+      join-kept (now (a .args .src)) (now (a .args .lengths)) (now (a .args .out)) _ q (λ z. omega (arith, same-reply (f .check-all .ensures))),
+    )
 
 returns-4 : tie.Need-returns-4
 returns-4 c =
@@ -86,7 +90,8 @@ returns-5 c =
     let e : tie.Else1 = search in
     let a : tie.Start = search in (
       sym (found-joined (few e) (lying t) (f .check-all .ensures) (omega arith) (now (a .args .out)) (s .start-of .ensures .0) (omega arith)),
-      found-after (few e) (lying t) (f .check-all .ensures) (omega arith) (now (a .args .out)) (s .start-of .ensures .0) (omega arith) (b .join-blocks .ensures),
+      found-after (few e) (lying t) (f .check-all .ensures) (omega arith) (now (a .args .out)) (s .start-of .ensures .0) (omega arith)
+          (b .join-blocks .ensures),
     )
 
 pub join-spec : {M : Type 1} → statement M

@@ -23,8 +23,11 @@ small k = let l : tie.At-loop Inv-loop μ-loop = search in k .shared-slice-known
 loop-again : tie.Need-loop-again Inv-loop μ-loop
 loop-again c =
     let l : tie.At-loop Inv-loop μ-loop = search in
-    let a : tie.Start Inv-loop μ-loop = search in
-    (ap (λ (k : ℕ). k + nth (now (a .args .lengths)) (l .loop .i)) (l .loop .inv .0) ∙ sym (sum-more (nth (now (a .args .lengths))) (l .loop .i)), omega arith, omega (arith, small c))
+    let a : tie.Start Inv-loop μ-loop = search in (
+      ap (λ (k : ℕ). k + nth (now (a .args .lengths)) (l .loop .i)) (l .loop .inv .0) ∙ sym (sum-more (nth (now (a .args .lengths))) (l .loop .i)),
+      omega arith,
+      omega (arith, small c),
+    )
 
 pub start-of-spec : {M : Type 1} → statement M
 start-of-spec =

@@ -83,13 +83,15 @@ module _ (rate : ℕ → ℕ) where
   upto-256 : sumTo width 256 ≡ sumTo cost 24
   upto-256 =
       sum-blocks width cost 16 128 16 8
-      (λ p h. one-band (16 + p) (128 + p * 16) 2 (omega arith) (length-16 p h) (λ j k. sym (band-16 (128 + p * 16 + j) (omega arith) (omega arith)) ∙ omega arith))
+      (λ p h. one-band (16 + p) (128 + p * 16) 2 (omega arith) (length-16 p h) (λ j k. sym (band-16 (128 + p * 16 + j) (omega arith) (omega arith))
+      ∙ omega arith))
       upto-128
 
   upto-544 : sumTo width 544 ≡ sumTo cost 36
   upto-544 =
       sum-blocks width cost 24 256 24 12
-      (λ p h. one-band (24 + p) (256 + p * 24) 3 (omega arith) (length-24 p h) (λ j k. sym (band-24 (256 + p * 24 + j) (omega arith) (omega arith)) ∙ omega arith))
+      (λ p h. one-band (24 + p) (256 + p * 24) 3 (omega arith) (length-24 p h) (λ j k. sym (band-24 (256 + p * 24 + j) (omega arith) (omega arith))
+      ∙ omega arith))
       upto-256
 
   -- whatever the rates
@@ -119,7 +121,8 @@ kind-small r i h =
     by-bool (eqb r 1)
     (λ t.
     let one = eqb-true r 1 t in
-    by-bool (eqb (i % 8) 0) (λ u. omega (arith, kind-first false r i one (eqb-true (i % 8) 0 u))) (λ u. omega (arith, kind-none false r i one (eqb-false (i % 8) 0 u))))
+    by-bool (eqb (i % 8) 0) (λ u. omega (arith, kind-first false r i one (eqb-true (i % 8) 0 u)))
+    (λ u. omega (arith, kind-none false r i one (eqb-false (i % 8) 0 u))))
     (λ t. omega (arith, kind-plain false r i (eqb-false r 1 t) refl))
 
 -- rates to nine make no kind of a word

@@ -1,15 +1,16 @@
 -- Laws of specs/Kinds.
 -- Assumes nothing.
-use mathlib.Core.Path.{_≡_, sym, _∙_}
+use mathlib.Core.Path.{_≡_, refl, sym, ap, _∙_}
 use mathlib.Core.Bool.{Bool, true, false}
 use mathlib.Core.List.{List}
 use Prim.Native.Nat.{ℕ, _+_, _-_, _/_, _%_, _≤_, _<_}
 use native.Mathlib.Omega.{arith}
 use lib.Dec.{ltb}
-use lib.ListN.{length, getD}
+use lib.ListN.{length, getD, set, length-set, replicate}
 use borrow.Author.Tests.{lt-ltb, le-ltb, ltb-true, ltb-false, le-leb, lt-leb, eq-eqb, ne-eqb}
 use Rattle.ground.specs.Cases.{by-bool}
-use Rattle.ground.specs.Fills.{length-from}
+use Rattle.ground.specs.Fills.{length-from, filled}
+use Rattle.ground.proofs.Laws.Fills.{fill-eight}
 use Rattle.kinds.specs.Kinds.{bandOf, kindOf, kinds}
 
 pub length-kinds : (flagC : Bool) (rates : List ℕ) → length (kinds flagC rates) ≡ 800
@@ -90,3 +91,39 @@ band-group i k m l h =
 pub kind-group : (c : Bool) (rate i k : ℕ) → (i % 8 ≡ 0 → ⊥) → (k % 8 ≡ 0 → ⊥) → kindOf c rate i ≡ kindOf c rate k
 unfolding kindOf
 kind-group c rate i k m n = rw (ne-eqb (i % 8) 0 m, ne-eqb (k % 8) 0 n)
+
+-- ---- the loop that fills eight places a turn: those below i stand in out
+
+pub record Filling (c : Bool) (rates out : List ℕ) (i : ℕ) : Type 0 where
+  pub upto : i ≤ 800
+  pub eights : i % 8 ≡ 0
+  pub long : length out ≡ 800
+  pub said : (k : ℕ) → k < i → getD out k 0 ≡ kindOf c (getD rates (bandOf k) 0) k
+
+module _ {c : Bool} {rates : List ℕ} where
+  pub fill-start : Filling c rates (replicate 800 0) 0
+  fill-start = record { upto = omega arith; eights = refl; long = refl; said = λ k h. absurd (omega arith) }
+
+  module _ {out : List ℕ} {i : ℕ} (I : Filling c rates out i) where
+    -- the rate of the band of place i is that of the seven after it
+    pub fill-turn : {b v w : ℕ} → i < 800 → b ≡ bandOf i → v ≡ kindOf c (getD rates b 0) i → w ≡ kindOf c (getD rates b 0) (i + 1)
+        → Filling c rates (set (set (set (set (set (set (set (set out i v) (i + 1) w) (i + 2) w) (i + 3) w) (i + 4) w) (i + 5) w) (i + 6) w) (i + 7) w) (i + 8)
+    fill-turn {b} {v} {w} h eb ev ew =
+        let m = I .eights in
+        let same : (k : ℕ) → i ≤ k → k < i + 8 → getD rates b 0 ≡ getD rates (bandOf k) 0 =
+        λ k p q. ap (λ (x : ℕ). getD rates x 0) (eb ∙ sym (band-group i k m p q)) in
+        record {
+          upto = omega (arith, m);
+          eights = omega (arith, m);
+          long = simp length-set (I .long);
+          said =
+              fill-eight (λ (k : ℕ). kindOf c (getD rates (bandOf k) 0) k) 0 out i v w (omega (arith, m, I .long)) (I .said)
+              (ev ∙ ap (λ (x : ℕ). kindOf c x i) (same i (omega arith) (omega arith)))
+              (λ k p q.
+              ew ∙ kind-group c (getD rates b 0) (i + 1) k (λ z. omega (arith, m)) (λ z. omega (arith, m))
+              ∙ ap (λ (x : ℕ). kindOf c x k) (same k (omega arith) q));
+        }
+
+    pub fill-end : 800 ≤ i → out ≡ kinds c rates
+    unfolding kinds
+    fill-end h = filled (λ (k : ℕ). kindOf c (getD rates (bandOf k) 0) k) 800 0 out (I .long) (λ k b. I .said k (omega arith))

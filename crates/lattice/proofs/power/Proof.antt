@@ -1,38 +1,8 @@
--- `lattice::power` meets its contract: the powers from 2 ^ 2 to 2 ^ 9 fit, are even, and divide 2 ^ 15.
--- Assumes nothing.
-use mathlib.Core.Path.{_≡_, refl, sym, ap, _∙_}
-use Prim.Native.Nat.{ℕ, _+_, _*_, _-_, _%_, _^_, _≤_}
-use native.Mathlib.Nat.{mod-eq-of-lt, mul-mod-right}
-use native.Mathlib.Omega.{arith}
-use lib.Pow.{pow-mono, pow-add}
+-- `lattice::power` meets its contract: the powers from 2 ^ 2 to 2 ^ 9 fit, are even, and divide 2 ^ 15. Assumes nothing.
 use borrow.Author.Needs.{needs}
-use Rattle.lattice.specs.Inner.{Power}
+use Rattle.lattice.proofs.Laws.Inner.{powers}
 use Rattle.lattice.proofs.power.Statement.{statement}
 use Rattle.lattice.proofs.power.Tie as tie
 
--- a lower power divides a higher one
-divides : (m n k : ℕ) → m + n ≡ k → 2 ^ k % 2 ^ m ≡ 0
-divides m n k e = ap (λ (j : ℕ). j % 2 ^ m) (sym (ap (λ (j : ℕ). 2 ^ j) e) ∙ pow-add 2 m n) ∙ mul-mod-right (2 ^ m) (2 ^ n)
-
-powers : (n : ℕ) → 2 ≤ n → n ≤ 9 → Power n ((1 * 2 ^ n) % 2 ^ 32)
-powers n a b =
-    let l : 2 ^ n ≤ 2 ^ 9 = pow-mono b in
-    let g : 2 ^ 2 ≤ 2 ^ n = pow-mono a in
-    let e : (1 * 2 ^ n) % 2 ^ 32 ≡ 2 ^ n = ap (λ (m : ℕ). m % 2 ^ 32) (omega arith) ∙ mod-eq-of-lt (omega arith) in
-    rw e
-    (record {
-      is = refl;
-      low = omega arith;
-      high = omega arith;
-      even = divides 1 (n - 1) n (omega arith);
-      divides = divides n (15 - n) 15 (omega arith);
-    })
-
-shl-result : tie.Need-shl-result
-shl-result c = search needs
-
-returns : tie.Need-returns
-returns c = powers (c .args .rate) (c .pre .0) (c .pre .1)
-
 pub power-spec : {M : Type 1} → statement M
-power-spec = tie.close (tie.spec shl-result returns)
+power-spec = tie.close (tie.spec (λ c. search needs) (λ c. search powers))

@@ -1,5 +1,4 @@
--- `lattice::round_of` meets its contract: the rounded number is the quotient, since it is nearest, half downwards.
--- Assumes nothing.
+-- `lattice::round_of` meets its contract: the rounded number is the quotient, since it is nearest, half downwards. Assumes nothing.
 use native.Mathlib.Omega.{arith}
 use native.Mathlib.Nat.{div-eq-of-lt-le, div-le-self}
 use Prim.Native.Nat.{_+_, _-_, _/_}
@@ -8,15 +7,6 @@ use Rattle.lattice.proofs.Laws.Lattice.{near}
 use Rattle.lattice.proofs.round_of.Statement.{statement}
 use Rattle.lattice.proofs.round_of.Tie as tie
 
-sub-result : tie.Need-sub-result
-sub-result c = search needs
-
-add-result : tie.Need-add-result
-add-result c = search needs
-
-div-result : tie.Need-div-result
-div-result c = search needs
-
 returns : tie.Need-returns
 returns c =
     let a = c .args in
@@ -24,4 +14,4 @@ returns c =
     (div-eq-of-lt-le (a .r) (omega arith) (omega arith), omega (arith, div-le-self (a .x + (a .r / 2 - 1)) (a .r)))
 
 pub round-of-spec : {M : Type 1} → statement M
-round-of-spec = tie.close (tie.spec sub-result add-result div-result returns)
+round-of-spec = tie.close (tie.spec (λ c. search needs) (λ c. search needs) (λ c. search needs) returns)

@@ -10,37 +10,16 @@ Inv-loop b₀ b = Unit {0}
 abbrev μ-loop : tie.MeasureT-loop
 μ-loop b₀ b = 255 - b
 
-loop-holds : tie.Need-loop-holds Inv-loop μ-loop
-loop-holds c = search needs
-
-prefix-row-requires : tie.Need-prefix-row-requires Inv-loop μ-loop
-prefix-row-requires c κs = search needs
-
-add-b : tie.Need-add-b Inv-loop μ-loop
-add-b c = search needs
-
-loop-less : tie.Need-loop-less Inv-loop μ-loop
-loop-less c = search needs
-
-loop-again : tie.Need-loop-again Inv-loop μ-loop
-loop-again c = search needs
-
-prefix-row-requires-2 : tie.Need-prefix-row-requires-2 Inv-loop μ-loop
-prefix-row-requires-2 c κs = search needs
-
-returns : tie.Need-returns Inv-loop μ-loop
-returns c = search needs
-
 pub prefix-rows-spec : {M : Type 1} → statement M
 prefix-rows-spec =
     tie.close
     (tie.spec
     Inv-loop
     μ-loop
-    loop-holds
-    prefix-row-requires
-    add-b
-    loop-less
-    loop-again
-    prefix-row-requires-2
-    returns)
+    (λ c. search needs)
+    (λ c κs. search needs)
+    (λ c. search needs)
+    (λ c. search needs)
+    (λ c. search needs)
+    (λ c κs. search needs)
+    (λ c. search needs))

@@ -1,7 +1,7 @@
 -- Laws of specs/Fits.
 -- Assumes nothing.
 use mathlib.Core.Path.{_≡_, refl, sym, ap, ap₂, _∙_}
-use mathlib.Core.Bool.{true, false, _&&_}
+use mathlib.Core.Bool.{Bool, true, false, _&&_}
 use mathlib.Core.List.{List, [], _∷_, map}
 use Prim.Native.Nat.{ℕ, suc, _+_, _≤_, _<_}
 use native.Mathlib.Numerals.{add-one}
@@ -36,24 +36,30 @@ pub record Fitting (kinds numbers : List ℕ) (i : ℕ) : Type 0 where
   pub upto : i ≤ length kinds
   pub said : fits (map coding kinds) numbers ≡ fits (map coding (drop i kinds)) (drop i numbers)
 
-pub fit-start : (kinds numbers : List ℕ) → Fitting kinds numbers 0
-fit-start kinds numbers = record { upto = omega arith; said = refl }
+module _ {kinds numbers : List ℕ} where
+  pub fit-start : Fitting kinds numbers 0
+  fit-start = record { upto = omega arith; said = refl }
 
-module _ (kinds numbers : List ℕ) (i : ℕ) (I : Fitting kinds numbers i) (l : length kinds ≡ length numbers) where
-  fit-head : i < length kinds → fits (map coding kinds) numbers ≡ (fit (coding (getD kinds i 0)) (getD numbers i 0) && fits (map coding (drop (suc i) kinds)) (drop (suc i) numbers))
-  unfolding fits
-  fit-head h = I .said ∙ ap₂ (λ (x y : List ℕ). fits (map coding x) y) (drop-cons kinds i 0 h) (drop-cons numbers i 0 (omega arith))
+  module _ {i : ℕ} (I : Fitting kinds numbers i) (l : length kinds ≡ length numbers) where
+    module _ {b : Bool} (h : i < length kinds) (e : b ≡ fit (coding (getD kinds i 0)) (getD numbers i 0)) where
+      fit-head : fits (map coding kinds) numbers ≡ (b && fits (map coding (drop (suc i) kinds)) (drop (suc i) numbers))
+      unfolding fits
+      fit-head =
+          I .said ∙ ap₂ (λ (x y : List ℕ). fits (map coding x) y) (drop-cons kinds i 0 h) (drop-cons numbers i 0 (omega arith))
+          ∙ ap (λ (z : Bool). z && fits (map coding (drop (suc i) kinds)) (drop (suc i) numbers)) (sym e)
 
-  pub fit-no : i < length kinds → fit (coding (getD kinds i 0)) (getD numbers i 0) ≡ false → fits (map coding kinds) numbers ≡ false
-  fit-no h e = fit-head h ∙ rw e
+      pub fit-no : b ≡ false → false ≡ fits (map coding kinds) numbers
+      fit-no q = sym (fit-head ∙ rw q)
 
-  pub fit-turn : i < length kinds → fit (coding (getD kinds i 0)) (getD numbers i 0) ≡ true → Fitting kinds numbers (i + 1)
-  fit-turn h e =
-      record {
-        upto = omega arith;
-        said = fit-head h ∙ (rw e) ∙ ap (λ (k : ℕ). fits (map coding (drop k kinds)) (drop k numbers)) (sym (add-one i));
-      }
+      pub fit-turn : b ≡ true → Fitting kinds numbers (i + 1)
+      fit-turn q =
+          record {
+            upto = omega arith;
+            said = fit-head ∙ (rw q) ∙ ap (λ (k : ℕ). fits (map coding (drop k kinds)) (drop k numbers)) (sym (add-one i));
+          }
 
-  pub fit-end : length kinds ≤ i → fits (map coding kinds) numbers ≡ true
-  unfolding fits
-  fit-end h = I .said ∙ ap₂ (λ (x y : List ℕ). fits (map coding x) y) (drop-of-length-le kinds h) (drop-of-length-le numbers {i = i} (omega arith))
+    pub fit-end : length kinds ≤ i → true ≡ fits (map coding kinds) numbers
+    unfolding fits
+    fit-end h =
+        sym
+        (I .said ∙ ap₂ (λ (x y : List ℕ). fits (map coding x) y) (drop-of-length-le kinds h) (drop-of-length-le numbers {i = i} (omega arith)))

@@ -1,33 +1,38 @@
 -- Laws of specs/Parts.
 -- Assumes nothing.
 use mathlib.Core.Path.{_≡_, refl, sym, ap, ap₂, _∙_}
-use mathlib.Core.Bool.{true, false}
+use mathlib.Core.Bool.{Bool, true, false}
 use mathlib.Core.List.{List, [], _∷_, map}
-use Prim.Native.Nat.{ℕ, _+_, _-_, _≤_, _<_}
+use Prim.Native.Nat.{ℕ, _+_, _-_, _*_, _≤_, _<_}
 use native.Mathlib.Omega.{arith}
 use lib.Dec.{ltb, eqb}
 use lib.ListN.{length, take}
+use lib.Seq.{length-take-le}
 use borrow.Author.Tests.{lt-ltb, le-ltb, eq-eqb, ne-eqb, ltb-true, ltb-false, eqb-true, eqb-false}
 use Rattle.ground.specs.Cases.{by-bool}
 use Rattle.ground.specs.Replies.{done, pastBudget, outOfRange, shortRoom, wideCode}
 use Rattle.words.specs.Tables.{coding}
+use Rattle.prefix.specs.Sizes.{modeBytes}
 use Rattle.prefix.proofs.Laws.Sizes.{mode-bounds, mode-past}
 use Rattle.norms.specs.Answers.{normReply}
 use Rattle.norms.specs.Part.{normBits}
+use Rattle.norms.proofs.Laws.Part.{bits-few}
 use Rattle.allotment.specs.Allotment.{sharesOf}
 use Rattle.kinds.specs.Kinds.{kinds}
 use Rattle.kinds.proofs.Laws.Kinds.{length-kinds}
 use Rattle.kinds.specs.Budget.{spare, wideIn, kindsAt}
 use Rattle.frame.specs.Layout.{budgetOf, kindsOf}
+use Rattle.frame.specs.Answers.{flagsOf}
 use Rattle.frame.specs.declared.Record.{Record}
+use Rattle.kinds.specs.declared.Flags.{Flags}
 use Rattle.layout.specs.Fits.{fits}
 use Rattle.layout.specs.declared.Plan.{Plan}
 use Rattle.layout.specs.declared.Parts.{Parts}
-use Rattle.layout.specs.Parts.{total, budgetFor, ratesFor, kindsFor, planOf, startReply, noParts, codesLong, partsWith, partsIn, layoutOf}
+use Rattle.layout.specs.Parts.{flagBits, total, budgetFor, ratesFor, kindsFor, planOf, startReply, noParts, codesLong, partsWith, partsIn, layoutOf}
 
 -- ---- the plan
 
-pub plan-made : (r : Record) (n b e : ℕ) (rs ks : List ℕ) → n ≡ length (normBits (r .transient) (r .«flag_n») (r .norms)) → e ≡ total r
+plan-made : (r : Record) (n b e : ℕ) (rs ks : List ℕ) → n ≡ length (normBits (r .transient) (r .«flag_n») (r .norms)) → e ≡ total r
     → b ≡ e - (4 + n) - spare (r .transient) → rs ≡ sharesOf (r .transient) (wideIn e (r .«flag_l»)) (r .norms) b .rates → ks ≡ kinds (r .«flag_c») rs
     → record { budget = b; rates = rs; kinds = ks } ≡ planOf r
 unfolding planOf budgetOf kindsOf kindsAt
@@ -36,6 +41,18 @@ plan-made r n b e rs ks en ee eb er ek =
     let q : rs ≡ ratesFor r = er ∙ ap₂ (λ (x y : ℕ). sharesOf (r .transient) (wideIn x (r .«flag_l»)) (r .norms) y .rates) ee m in
     let k : ks ≡ kindsFor r = ek ∙ ap (kinds (r .«flag_c»)) q in
     ap (λ (x : ℕ). record { budget = x; rates = rs; kinds = ks }) m ∙ ap₂ (λ (x y : List ℕ). record { budget = budgetFor r; rates = x; kinds = y }) q k
+
+-- the plan as the code makes it: bytes, norm bits, budget, rates, kinds
+pub plan-code : {bytes wide n left k b : ℕ} {f : Flags} {rs ks : List ℕ} (r : Record) → bytes ≡ modeBytes (r .mode) → wide ≡ bytes
+    → n ≡ length (normBits (r .transient) (r .«flag_n») (r .norms)) → left ≡ wide * 8 - (4 + n) → k ≡ spare (r .transient) → b ≡ left - k
+    → f ≡ flagsOf (flagBits r) → rs ≡ sharesOf (f .transient) (wideIn (wide * 8) (f .l)) (r .norms) b .rates → ks ≡ kinds (r .«flag_c») rs
+    → record { budget = b; rates = rs; kinds = ks } ≡ planOf r
+plan-code {wide = wide} {b = b} r ey ew en el ek eb ef er es =
+    plan-made r _ _ _ _ _ en (ap (λ (x : ℕ). x * 8) (ew ∙ ey)) (eb ∙ ap₂ (λ (x y : ℕ). x - y) el ek)
+    (er ∙ ap (λ (x : Flags). sharesOf (x .transient) (wideIn (wide * 8) (x .l)) (r .norms) b .rates) ef) es
+
+pub norm-room : (t f : Bool) (norms : List ℕ) (n : ℕ) → n ≡ length (normBits t f norms) → n ≤ 704
+norm-room t f norms n e = omega (arith, bits-few t f norms)
 
 pub length-kinds-for : (r : Record) → length (kindsFor r) ≡ 800
 unfolding kindsOf kindsAt
@@ -95,6 +112,16 @@ started r c e =
     let m = ltb-false 19 (r .mode) a in
     by-bool (ltb c 800) (λ b. absurd (let z = start-short r c m (ltb-true c 800 b) in omega arith))
     (λ b. let l = ltb-false c 800 b in record { mode = m; codes = l; norms = start-norms r c m l ∙ e }))
+
+-- 800 of its numbers are taken
+pub room-800 : (r : Record) (cs : List ℕ) (x : ℕ) → x ≡ startReply r (length cs) → x ≡ 0 → length (take 800 cs) ≡ 800
+room-800 r cs x ex z = length-take-le 800 cs (started r (length cs) (sym ex ∙ z) .codes)
+
+pub parts-ready : {x : ℕ} {p : Plan} (r : Record) (cs : List ℕ) → x ≡ startReply r (length cs) → x ≡ 0 → p ≡ planOf r
+    → (length (p .kinds) ≡ length (take 800 cs)) × (length (p .kinds) ≤ 800) × (p .budget ≤ 2560)
+parts-ready {x} {p} r cs ex z ep =
+    let P = planned r p ep in
+    (P .long ∙ sym (room-800 r cs x ex z), omega (arith, P .long), omega (arith, P .budget, budget-small r))
 
 -- ---- the parts, by the tests
 

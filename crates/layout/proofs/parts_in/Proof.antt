@@ -1,6 +1,5 @@
--- `writer::parts_in` meets its contract, by the tests in 01's order. Assumes nothing.
+-- `layout::parts_in` meets its contract, by the tests in 01's order. Assumes nothing.
 use mathlib.Core.Path.{sym, _∙_}
-use native.Mathlib.Omega.{arith}
 use borrow.Author.Tests.{not-true, not-false}
 use Rattle.layout.proofs.Laws.Parts.{parts-wide, parts-past, parts-made}
 use borrow.Author.Needs.{needs}

@@ -1,4 +1,4 @@
--- `writer::start_reply` meets its contract, in 01's order. Assumes nothing.
+-- `layout::start_reply` meets its contract, in 01's order. Assumes nothing.
 use mathlib.Core.Path.{_∙_}
 use Rattle.layout.proofs.Laws.Parts.{start-mode, start-short, start-norms}
 use borrow.Author.Needs.{needs}

@@ -12,7 +12,8 @@ use Rattle.ground.specs.Fills.{getD-table, length-from, filled}
 use Rattle.order.specs.Order.{order, places, pick, sent, banded, place-band, band-place, banded-sent, length-sent}
 use Rattle.norms.specs.Steps.{Near}
 use Rattle.legal.specs.Legal.{capped, fallen, risen, lowered, held, legalSent, legalOf}
-use Rattle.legal.proofs.Laws.Legal.{Step, near-of, near-at, capped-le, capped-first, fallen-le, fallen-step, risen-le, risen-first, risen-step, legal-near, length-legal}
+use Rattle.legal.proofs.Laws.Legal.{Step, near-of, near-at, capped-le, capped-first, fallen-le, fallen-step, risen-le, risen-first, risen-step}
+use Rattle.legal.proofs.Laws.Legal.{legal-near, length-legal}
 use Rattle.norms.specs.Part.{Writable}
 
 -- nowhere above

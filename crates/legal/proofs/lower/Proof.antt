@@ -1,67 +1,18 @@
--- `norms::lower` meets its contract: places from i on are filled, the lowest of them by `last`. Assumes nothing.
+-- `legal::lower` meets its contract: places from i on are filled, the lowest of them by `last`. Assumes nothing.
+use Rattle.legal.proofs.Laws.Loops.{Lowering, lower-start, lower-turn, lower-end}
 use borrow.Author.Needs.{needs}
-use mathlib.Core.Path.{_≡_, refl, subst⁻¹}
-use mathlib.Core.List.{List}
-use native.Mathlib.Omega.{arith}
-use Prim.Native.Nat.{ℕ, _-_, _≤_, _<_}
-use lib.ListN.{length, getD, length-set}
-use Rattle.ground.proofs.Laws.Fills.{fill-down}
-use Rattle.ground.specs.Fills.{filled}
-use Rattle.legal.specs.Legal.{fallen}
-use Rattle.legal.proofs.Laws.Loops.{fallen-start, fallen-next, lowered-small}
 use Rattle.legal.proofs.lower.Statement.{statement}
 use Rattle.legal.proofs.lower.Tie as tie
 
 abbrev Inv-loop : tie.InvT-loop
-Inv-loop ss last₀ out₀ i₀ last out i = (i ≤ 43) × (length out ≡ 44) × (last ≤ 39) × (last ≡ fallen ss (43 - i)) × ((k : ℕ) → i ≤ k → k < 44 → getD out k 0 ≡ fallen ss (43 - k))
+Inv-loop ss last₀ out₀ i₀ last out i = Lowering ss out last i
 
 abbrev μ-loop : tie.MeasureT-loop
 μ-loop ss last₀ out₀ i₀ last out i = i
 
-array-read-last : tie.Need-array-read-last Inv-loop μ-loop
-array-read-last c = search needs
-
-loop-holds : tie.Need-loop-holds Inv-loop μ-loop
-loop-holds c =
-    let ss = c .args .t1 in
-    (omega arith, refl, c .pre 43, fallen-start ss, λ k a b. let e : k ≡ 43 = omega arith in rw e (fallen-start ss))
-
-sub-i : tie.Need-sub-i Inv-loop μ-loop
-sub-i c = search needs
-
-array-read-smaller : tie.Need-array-read-smaller Inv-loop μ-loop
-array-read-smaller c = search needs
-
-add-smaller : tie.Need-add-smaller Inv-loop μ-loop
-add-smaller c = search needs
-
-smaller-requires : tie.Need-smaller-requires Inv-loop μ-loop
-smaller-requires c κs = search needs
-
-array-write-out : tie.Need-array-write-out Inv-loop μ-loop
-array-write-out c = search needs
-
-loop-less : tie.Need-loop-less Inv-loop μ-loop
-loop-less c = search needs
-
+-- by the successor as it is now, not as it was
 loop-again : tie.Need-loop-again Inv-loop μ-loop
-loop-again c =
-    let l = c .before .before .loop in
-    let ss = c .before .before .before .args .t1 in
-    let e = fallen-next ss (l .i) (l .last) (c .smaller .result) (omega arith) (l .inv .0) (l .inv .3) (c .smaller .ensures) in (
-      omega arith,
-      simp length-set (l .inv .1),
-      omega (arith, c .smaller .ensures, c .before .before .before .pre (l .i - 1)),
-      e,
-      fill-down (λ (k : ℕ). fallen ss (43 - k)) 0 (l .out) 44 (l .i) (l .i - 1) (c .smaller .result) (omega arith) (omega (arith, l .inv .1)) (l .inv .4) e,
-    )
-
-returns : tie.Need-returns Inv-loop μ-loop
-returns c =
-    let l = c .before .loop in
-    let ss = c .before .before .args .t1 in
-    let e = filled (λ (k : ℕ). fallen ss (43 - k)) 44 0 (l .out) (l .inv .1) (λ k h. l .inv .4 k (omega arith) h) in
-    (e, λ k. subst⁻¹ (λ (z : List ℕ). getD z k 0 ≤ 39) e (lowered-small ss (c .before .before .pre) k))
+loop-again c = search lower-turn
 
 pub lower-spec : {M : Type 1} → statement M
 lower-spec =
@@ -69,13 +20,13 @@ lower-spec =
     (tie.spec
     Inv-loop
     μ-loop
-    array-read-last
-    loop-holds
-    sub-i
-    array-read-smaller
-    add-smaller
-    smaller-requires
-    array-write-out
-    loop-less
+    (λ c. search needs)
+    (λ c. lower-start (c .pre))
+    (λ c. search needs)
+    (λ c. search needs)
+    (λ c. search needs)
+    (λ c κs. search needs)
+    (λ c. search needs)
+    (λ c. search needs)
     loop-again
-    returns)
+    (λ c. lower-end (search) (c .before .loop .inv) (search)))

@@ -14,7 +14,8 @@ use Rattle.ground.specs.Cases.{by-bool}
 use Rattle.ground.specs.Fills.{getD-table, length-from, table}
 use Rattle.contest.specs.Raised.{Band, Game, Readys, ahead, at, contest, dropped, first, fits, granted, nobody, round}
 use Rattle.contest.proofs.Laws.Ends.{pot-round, pot-start}
-use Rattle.contest.proofs.Laws.Rounds.{Able, able-round, ahead-at, at-other, at-served, contest-on, contest-over, dropped-ready, first-le, granted-ready, served-left}
+use Rattle.contest.proofs.Laws.Rounds.{Able, able-round, ahead-at, at-other, at-served, contest-on, contest-over, dropped-ready, first-le, granted-ready}
+use Rattle.contest.proofs.Laws.Rounds.{served-left}
 use Rattle.contest.proofs.Laws.Promise.{sound-table}
 use Rattle.levels.specs.Inner.{spot}
 use Rattle.levels.proofs.Laws.Order.{leads, spot-in, spot-out}

@@ -2,7 +2,7 @@
 -- Assumes nothing.
 use mathlib.Core.Bool.{Bool, cond, false, true}
 use mathlib.Core.List.{List}
-use mathlib.Core.Path.{_≡_, refl, ap, _∙_}
+use mathlib.Core.Path.{_≡_, refl, sym, ap, _∙_}
 use Prim.Native.Nat.{zero, suc, _%_, _*_, _+_, _-_, _<_, _≤_, ℕ}
 use native.Mathlib.Nat.{mul-le-mul, zero-mul, not-suc-le-zero}
 use native.Mathlib.Numerals.{add-one}
@@ -17,10 +17,25 @@ use Rattle.contest.specs.Bands.{lengthOf}
 use Rattle.levels.specs.Inner.{bid, bidAt, bill, climb, part, highest, Keyed}
 use Rattle.levels.proofs.Laws.Levels.{Best}
 
+-- ---- the lengths
+pub lengths-range : (p : ℕ) → (8 ≤ lengthOf p) × (lengthOf p ≤ 32)
+unfolding lengthOf
+lengths-range p = go (ltb p 16) (ltb p 24) (ltb p 36)
+  where
+    go : (a b c : Bool) → (8 ≤ cond a 8 (cond b 16 (cond c 24 32))) × (cond a 8 (cond b 16 (cond c 24 32)) ≤ 32)
+    go true b c = (omega arith, omega arith)
+    go false true c = (omega arith, omega arith)
+    go false false true = (omega arith, omega arith)
+    go false false false = (omega arith, omega arith)
+
+-- ---- bids
 module _ (key size rate left : ℕ) where
-  pub bid-yes : size ≤ left → rate < 9 → bid key size rate left ≡ key - 2048 * rate
+  bid-yes : size ≤ left → rate < 9 → bid key size rate left ≡ key - 2048 * rate
   unfolding bid
   bid-yes h k = rw (le-leb _ _ h, lt-ltb _ _ k)
+
+  pub bid-made : {r : ℕ} → size ≤ left → rate < 9 → r ≡ key - 2048 * rate → r ≡ bid key size rate left
+  bid-made h k e = e ∙ sym (bid-yes h k)
 
   pub bid-nine : 9 ≤ rate → bid key size rate left ≡ 0
   unfolding bid
@@ -51,9 +66,6 @@ bid-at keys rates left i size r es er = er ∙ ap (λ (n : ℕ). bid (nth keys i
 pub bill-none : (keys : List ℕ) (level : ℕ) → bill keys level 0 ≡ 0
 unfolding bill
 bill-none keys level = sum-nil (part keys level)
-
-pub part-le : (climbed size : ℕ) → climbed ≤ 9 → size ≤ 32 → climbed * size ≤ 288
-part-le climbed size h k = mul-le-mul {n₁ = climbed} {m₁ = size} {n₂ = 9} {m₂ = 32} h k
 
 pub bill-turn : (keys : List ℕ) (level i climbed size sum : ℕ) → climbed ≡ climb (nth keys i) level → size ≡ lengthOf i → sum ≡ bill keys level i
     → sum + climbed * size ≡ bill keys level (i + 1)
@@ -108,6 +120,19 @@ module _ (sizes : List ℕ) (e : sizes ≡ table 44 lengthOf) (i : ℕ) (h : i <
   pub size-at : nth sizes i ≡ lengthOf i
   size-at = rw e (getD-table lengthOf 44 0 i h)
 
+  part-le : (climbed : ℕ) → climbed ≤ 9 → climbed * nth sizes i ≤ 288
+  part-le climbed k = mul-le-mul {n₁ = climbed} {m₁ = nth sizes i} {n₂ = 9} {m₂ = 32} k (omega (arith, size-at, lengths-range i))
+
+  module _ (climbed : ℕ) (k : climbed ≤ 9) where
+    pub part-fits : climbed * nth sizes i < 65536
+    part-fits = omega (arith, part-le climbed k)
+
+    pub sum-fits : (sum : ℕ) → sum ≤ 288 * i → sum + climbed * nth sizes i < 65536
+    sum-fits sum l = omega (arith, part-le climbed k)
+
+    pub bill-low : (sum : ℕ) → sum ≤ 288 * i → sum + climbed * nth sizes i ≤ 288 * (i + 1)
+    bill-low sum l = omega (arith, part-le climbed k)
+
 -- a bid has its band in its lowest six bits
 module _ (keys rates : List ℕ) (left : ℕ) (k : Keyed keys) where
   pub best-zero : highest (bidAt keys rates left) 44 ≡ 0 → (p : ℕ) → p < 44 → bidAt keys rates left p ≡ 0
@@ -121,6 +146,7 @@ pub record Next (keys sizes rates : List ℕ) (left q : ℕ) : Type 0 where
   pub best : Best (bidAt keys rates left) q
   pub bids : 0 < bidAt keys rates left q
   pub sized : nth sizes q ≡ lengthOf q
+  pub some : 0 < nth sizes q
   pub fits : nth sizes q ≤ left
   pub below : nth rates q < 9
 
@@ -137,18 +163,22 @@ next keys sizes rates left top k es e pos =
       best = record { inside = w .0; high = λ p b. rw (w .1) (highest-ge (bidAt keys rates left) 44 p b) };
       bids = h;
       sized = s;
+      some = omega (arith, s, lengths-range q);
       fits = omega (arith, f, s);
       below = f .1;
     })
 
 -- less than eight bits serve no one
-pub none-short : (keys rates : List ℕ) (left : ℕ) → left < 8 → ((p : ℕ) → p < 44 → 8 ≤ lengthOf p) → (p : ℕ) → p < 44 → bidAt keys rates left p ≡ 0
-none-short keys rates left h l p b = bid-short (nth keys p) (lengthOf p) (nth rates p) left (omega (arith, l p b))
+pub none-short : (keys rates : List ℕ) (left : ℕ) → left < 8 → (p : ℕ) → p < 44 → bidAt keys rates left p ≡ 0
+none-short keys rates left h p b = bid-short (nth keys p) (lengthOf p) (nth rates p) left (omega (arith, lengths-range p))
 
 -- at the highest level nothing is billed
-pub bill-top : (keys : List ℕ) → ((p : ℕ) → p < 44 → nth keys p ≤ 65535) → bill keys 65535 44 ≡ 0
+bill-top : (keys : List ℕ) → ((p : ℕ) → p < 44 → nth keys p ≤ 65535) → bill keys 65535 44 ≡ 0
 unfolding bill
 bill-top keys h = sum-none (part keys 65535) 44 (λ p b. free (nth keys p) (lengthOf p) (h p b))
   where
     free : (key size : ℕ) → key ≤ 65535 → climb key 65535 * size ≡ 0
     free key size k = let e : climb key 65535 ≡ 0 = omega arith in rw e (zero-mul size)
+
+pub bill-paid : (keys : List ℕ) (budget : ℕ) → ((p : ℕ) → p < 44 → nth keys p ≤ 65535) → bill keys 65535 44 ≤ budget
+bill-paid keys budget h = omega (arith, bill-top keys h)

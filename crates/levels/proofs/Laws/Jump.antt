@@ -41,7 +41,8 @@ one-more c s d e = rw (← e, add-mul, one-mul)
 pub stepped-none : (b : Band) → Readys b → stepped 0 b ≡ b
 unfolding stepped
 stepped-none b r =
-    band-ext (record { size = b .size; score = b .score - 32 * 0; rate = b .rate + 0; competes = b .competes && ltb (b .rate + 0) 9 }) b refl (omega arith) (omega arith)
+    band-ext (record { size = b .size; score = b .score - 32 * 0; rate = b .rate + 0; competes = b .competes && ltb (b .rate + 0) 9 }) b refl (omega arith)
+    (omega arith)
     (by-bool (b .competes) (λ t. rw t (lt-ltb (b .rate + 0) 9 (omega (arith, r t)))) (λ t. rw t))
 
 pub stepped-more : (n : ℕ) (b : Band) → b .competes ≡ true → stepped n (granted b) ≡ stepped (n + 1) b
@@ -53,7 +54,8 @@ stepped-more n b t =
     refl (omega arith) (omega arith)
     (rw t
     (by-bool (ltb (b .rate + (n + 1)) 9)
-    (λ u. rw (u, lt-ltb (b .rate + 1) 9 (omega (arith, ltb-true (b .rate + (n + 1)) 9 u)), lt-ltb (b .rate + 1 + n) 9 (omega (arith, ltb-true (b .rate + (n + 1)) 9 u))))
+    (λ u. rw
+    (u, lt-ltb (b .rate + 1) 9 (omega (arith, ltb-true (b .rate + (n + 1)) 9 u)), lt-ltb (b .rate + 1 + n) 9 (omega (arith, ltb-true (b .rate + (n + 1)) 9 u))))
     (λ u. rw (u, le-ltb (b .rate + 1 + n) 9 (omega (arith, ltb-false (b .rate + (n + 1)) 9 u))) (and-no (ltb (b .rate + 1) 9)))))
   where
     and-no : (x : Bool) → (x && false) ≡ false
@@ -104,7 +106,8 @@ count-granted level p b r t h =
     (λ u.
     let k : b .rate + 1 < 9 = ltb-true _ _ u in
     least-step (b .rate) ((spot p (granted b) - level) / 2048) k
-    ∙ ap (least (9 - b .rate)) (div-step (spot p b) (spot p (granted b)) level (spot-granted p b r t k) (least-pos (9 - b .rate) ((spot p b - level) / 2048) h)))
+    ∙ ap (least (9 - b .rate)) (div-step (spot p b) (spot p (granted b)) level (spot-granted p b r t k)
+    (least-pos (9 - b .rate) ((spot p b - level) / 2048) h)))
     (λ u. least-ninth (b .rate) ((spot p (granted b) - level) / 2048) ((spot p b - level) / 2048) (r .below) (ltb-false _ _ u) h)
 
 -- ---- one round

@@ -27,7 +27,8 @@ module _ (p q : ℕ) (b c : Band) where
   unfolding spot key
   spot-up h = go (b .competes) (c .competes) h
     where
-      go : (x y : Bool) → cond x (suc (b .score)) 0 < cond y (suc (c .score)) 0 → cond x (64 * b .score + (63 - p) + 2048) 0 ≤ cond y (64 * c .score + (63 - q) + 2048) 0
+      go : (x y : Bool) → cond x (suc (b .score)) 0 < cond y (suc (c .score)) 0
+          → cond x (64 * b .score + (63 - p) + 2048) 0 ≤ cond y (64 * c .score + (63 - q) + 2048) 0
       go true true h = omega arith
       go true false h = omega arith
       go false true h = omega arith
@@ -37,7 +38,8 @@ module _ (p q : ℕ) (b c : Band) where
   unfolding spot key
   spot-on h l = go (b .competes) (c .competes) h
     where
-      go : (x y : Bool) → cond x (suc (b .score)) 0 ≤ cond y (suc (c .score)) 0 → cond x (64 * b .score + (63 - p) + 2048) 0 ≤ cond y (64 * c .score + (63 - q) + 2048) 0
+      go : (x y : Bool) → cond x (suc (b .score)) 0 ≤ cond y (suc (c .score)) 0
+          → cond x (64 * b .score + (63 - p) + 2048) 0 ≤ cond y (64 * c .score + (63 - q) + 2048) 0
       go true true h = omega arith
       go true false h = omega arith
       go false true h = omega arith
@@ -67,7 +69,8 @@ top-spot g i h = top-to (g .bands) 43 i h
 alike : (f l s t : ℕ) → f ≤ 43 → l ≤ 43 → 64 * s + (63 - f) ≡ 64 * t + (63 - l) → f ≡ l
 alike f l s t a b e = omega arith
 
-pub leads : (g : Game) (f : ℕ) → f ≤ 43 → at (g .bands) f .competes ≡ true → ((i : ℕ) → i ≤ 43 → spot i (at (g .bands) i) ≤ spot f (at (g .bands) f)) → first g ≡ f
+pub leads : (g : Game) (f : ℕ) → f ≤ 43 → at (g .bands) f .competes ≡ true → ((i : ℕ) → i ≤ 43 → spot i (at (g .bands) i) ≤ spot f (at (g .bands) f))
+    → first g ≡ f
 unfolding ahead
 leads g f b c h =
     let up = top-spot g f b in

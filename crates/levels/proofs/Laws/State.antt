@@ -89,14 +89,16 @@ module _ (g : Game) (keys : List ℕ) (l : Flat g keys) where
   state-able rates left =
       record {
         all = length-from _ 44 0;
-        sound = sound-table (λ p. stepped (nth rates p) (at (g .bands) p)) (λ p h. stepped-ready (nth rates p) (at (g .bands) p) (l .unserved p h) (l .sound p));
+        sound = sound-table (λ p. stepped (nth rates p) (at (g .bands) p))
+            (λ p h. stepped-ready (nth rates p) (at (g .bands) p) (l .unserved p h) (l .sound p));
       }
 
   pub state-size : (rates : List ℕ) (left p : ℕ) → p < 44 → at (state g rates left .bands) p .size ≡ lengthOf p
   state-size rates left p h =
       ap (λ (b : Band). b .size) (state-at rates left p h) ∙ stepped-size (nth rates p) (at (g .bands) p) ∙ sym (l .sized p h)
 
-  state-spot : (rates : List ℕ) (left p : ℕ) → p < 44 → spot p (at (state g rates left .bands) p) ≡ cond (ltb (nth rates p) 9) (nth keys p - 2048 * nth rates p) 0
+  state-spot : (rates : List ℕ) (left p : ℕ) → p < 44
+      → spot p (at (state g rates left .bands) p) ≡ cond (ltb (nth rates p) 9) (nth keys p - 2048 * nth rates p) 0
   state-spot rates left p h =
       ap (spot p) (state-at rates left p h)
       ∙ by-bool (ltb (nth rates p) 9) {X = spot p (stepped (nth rates p) (at (g .bands) p)) ≡ cond (ltb (nth rates p) 9) (nth keys p - 2048 * nth rates p) 0}
@@ -132,15 +134,26 @@ module _ (g : Game) (keys : List ℕ) (l : Flat g keys) where
         (λ p h. let h′ : p < 44 = omega arith in same p h′)
         (omega (arith, state-left rates left, state-left (set rates q (nth rates q + 1)) (left - lengthOf q), state-size rates left q (b .inside)))
       where
-        same : (p : ℕ) → p < 44 → at (set (state g rates left .bands) q (granted (at (state g rates left .bands) q))) p ≡ at (state g (set rates q (nth rates q + 1)) (left - lengthOf q) .bands) p
+        same : (p : ℕ) → p < 44
+            → at (set (state g rates left .bands) q (granted (at (state g rates left .bands) q))) p ≡ at
+            (state g (set rates q (nth rates q + 1)) (left - lengthOf q) .bands) p
         same p h =
             rw (state-at (set rates q (nth rates q + 1)) (left - lengthOf q) p h)
             (by-bool (eqb p q)
             (λ t. let e : p ≡ q = eqb-true _ _ t in
-            rw (e, getD-set-same rates q (nth rates q + 1) 0 (omega (arith, b .inside, w)), getD-set-same (state g rates left .bands) q (granted (at (state g rates left .bands) q)) nobody (omega (arith, b .inside, state-able rates left .all)), state-at rates left q (b .inside))
+            rw (
+              e,
+              getD-set-same rates q (nth rates q + 1) 0 (omega (arith, b .inside, w)),
+              getD-set-same (state g rates left .bands) q (granted (at (state g rates left .bands) q)) nobody
+                  (omega (arith, b .inside, state-able rates left .all)),
+              state-at rates left q (b .inside),
+            )
             (granted-stepped (nth rates q) (at (g .bands) q) q-in))
             (λ t. let n : p ≡ q → ⊥ = eqb-false _ _ t in
-            rw (getD-set-other rates q p (nth rates q + 1) 0 n, getD-set-other (state g rates left .bands) q p (granted (at (state g rates left .bands) q)) nobody n)
+            rw (
+              getD-set-other rates q p (nth rates q + 1) 0 n,
+              getD-set-other (state g rates left .bands) q p (granted (at (state g rates left .bands) q)) nobody n,
+            )
             (state-at rates left p h)))
 
     state-step : contest 396 (state g rates left) ≡ contest 396 (state g (set rates q (nth rates q + 1)) (left - lengthOf q))
@@ -149,7 +162,8 @@ module _ (g : Game) (keys : List ℕ) (l : Flat g keys) where
     pub state-serve : (size : ℕ) → size ≡ lengthOf q → contest 396 (state g rates left) ≡ contest 396 (state g (set rates q (nth rates q + 1)) (left - size))
     state-serve size e = state-step ∙ ap (λ (n : ℕ). contest 396 (state g (set rates q (nth rates q + 1)) (left - n))) (sym e)
 
-  pub state-end : (rates : List ℕ) (left : ℕ) → ((p : ℕ) → p < 44 → bidAt keys rates left p ≡ 0) → contest 396 (state g rates left) ≡ thinned (state g rates left)
+  pub state-end : (rates : List ℕ) (left : ℕ) → ((p : ℕ) → p < 44 → bidAt keys rates left p ≡ 0)
+      → contest 396 (state g rates left) ≡ thinned (state g rates left)
   state-end rates left z =
       ended (state g rates left) (state-able rates left)
       (λ p h. let h′ : p < 44 = omega arith in state-offer rates left p h′ ∙ z p h′)
@@ -181,6 +195,7 @@ module _ (g : Game) (keys : List ℕ) (l : Flat g keys) where
       (jumped-all level) (state-able (table 44 (λ p. climb (nth keys p) level)) (g .left - bill keys level 44) .all)
       (λ p h. let h′ : p < 44 = omega arith in
       jumped-at level p h′
-      ∙ ap (λ n. stepped n (at (g .bands) p)) (count-climb level p (nth keys p) (at (g .bands) p) (l .unserved p h′) (l .keyed p h′) ∙ sym (getD-table (λ p. climb (nth keys p) level) 44 0 p h′))
+      ∙ ap (λ n. stepped n (at (g .bands) p)) (count-climb level p (nth keys p) (at (g .bands) p) (l .unserved p h′) (l .keyed p h′)
+      ∙ sym (getD-table (λ p. climb (nth keys p) level) 44 0 p h′))
       ∙ sym (state-at (table 44 (λ p. climb (nth keys p) level)) (g .left - bill keys level 44) p h′))
       (jumped-left level))

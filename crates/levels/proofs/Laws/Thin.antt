@@ -13,17 +13,20 @@ use lib.Seq.{ext-getD}
 use Rattle.ground.specs.Cases.{by-bool}
 use Rattle.contest.specs.Raised.{Band, Game, ahead, at, contest, dropped, first, fits, granted, nobody, round}
 use Rattle.contest.proofs.Laws.Ends.{pot, pot-round}
-use Rattle.contest.proofs.Laws.Rounds.{Able, able-round, ahead-at, at-other, at-refused, at-served, contest-on, contest-over, first-le, no-one, round-refused, served-left}
+use Rattle.contest.proofs.Laws.Rounds.{Able, able-round, ahead-at, at-other, at-refused, at-served, contest-on, contest-over, first-le, no-one, round-refused}
+use Rattle.contest.proofs.Laws.Rounds.{served-left}
 use Rattle.levels.specs.Inner.{spot}
 use Rattle.levels.proofs.Laws.Order.{leads, spot-out, top-spot}
 
 -- two bands, two games with equal parts are equal
 pub band-ext : (b c : Band) → b .size ≡ c .size → b .score ≡ c .score → b .rate ≡ c .rate → b .competes ≡ c .competes → b ≡ c
 band-ext b c p q r s =
-    let e : _≡_ {A = Band} (record { size = b .size; score = b .score; rate = b .rate; competes = b .competes }) (record { size = c .size; score = c .score; rate = c .rate; competes = c .competes }) = cc in
+    let e : _≡_ {A = Band} (record { size = b .size; score = b .score; rate = b .rate; competes = b .competes })
+    (record { size = c .size; score = c .score; rate = c .rate; competes = c .competes }) = cc in
     e
 
-pub game-ext : (g h : Game) → length (g .bands) ≡ 44 → length (h .bands) ≡ 44 → ((p : ℕ) → p ≤ 43 → at (g .bands) p ≡ at (h .bands) p) → g .left ≡ h .left → g ≡ h
+pub game-ext : (g h : Game) → length (g .bands) ≡ 44 → length (h .bands) ≡ 44 → ((p : ℕ) → p ≤ 43 → at (g .bands) p ≡ at (h .bands) p) → g .left ≡ h .left
+    → g ≡ h
 game-ext g h a b e l =
     let k : g .bands ≡ h .bands = ext-getD nobody (g .bands) (h .bands) (a ∙ sym b) (λ i c. e i (omega arith)) in
     let r : _≡_ {A = Game} (record { bands = g .bands; left = g .left }) (record { bands = h .bands; left = h .left }) = cc in

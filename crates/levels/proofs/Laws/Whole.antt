@@ -5,8 +5,9 @@ use mathlib.Core.Bool.{Bool, true, false, cond}
 use mathlib.Core.List.{List}
 use Prim.Native.Nat.{ℕ, _%_, _+_, _-_, _*_, _≤_, _<_}
 use native.Mathlib.Omega.{arith}
-use lib.Dec.{ltb}
-use Rattle.ground.specs.Fills.{table, getD-table, filled}
+use lib.ListN.{length}
+use Rattle.ground.proofs.Laws.Filling.{Filling, filling-done}
+use Rattle.ground.specs.Fills.{table, getD-table, filled, length-from}
 use Rattle.ground.specs.Sums.{nth}
 use Rattle.contest.specs.Bands.{lengthOf, competing}
 use Rattle.contest.specs.Raised.{Band, Game, at, contest, begin, fresh}
@@ -16,17 +17,6 @@ use Rattle.levels.specs.Inner.{spot, state, Flat, climb, bill, Finished,
 use Rattle.levels.specs.Levels.{Room, endOf, settled}
 use Rattle.levels.proofs.Laws.Finish.{thinned, thinned-at, thinned-left, kept-rate}
 use Rattle.levels.proofs.Laws.State.{state-at, state-left, state-end, state-jump, stepped-rate}
-
--- ---- the lengths
-pub lengths-range : (p : ℕ) → (8 ≤ lengthOf p) × (lengthOf p ≤ 32)
-unfolding lengthOf
-lengths-range p = go (ltb p 16) (ltb p 24) (ltb p 36)
-  where
-    go : (a b c : Bool) → (8 ≤ cond a 8 (cond b 16 (cond c 24 32))) × (cond a 8 (cond b 16 (cond c 24 32)) ≤ 32)
-    go true b c = (omega arith, omega arith)
-    go false true c = (omega arith, omega arith)
-    go false false true = (omega arith, omega arith)
-    go false false false = (omega arith, omega arith)
 
 -- ---- the start
 key-low : (wide : Bool) (p height : ℕ) → height ≤ 976 → keyOf wide p height ≤ 65535
@@ -45,16 +35,36 @@ key-low-bits wide p height h = go (competing wide p)
     go true k = omega arith
     go false k = absurd (omega arith)
 
+module _ (wide : Bool) (p height : ℕ) where
+  pub key-yes : competing wide p ≡ true → 64 * height + (63 - p) + 2048 ≡ keyOf wide p height
+  unfolding keyOf
+  key-yes t = rw t
+
+  pub key-no : competing wide p ≡ false → 0 ≡ keyOf wide p height
+  unfolding keyOf
+  key-no t = rw t
+
+pub climbs-long : (keys : List ℕ) (level : ℕ) {start : List ℕ} → start ≡ table 44 (λ p. climb (nth keys p) level) → length start ≡ 44
+climbs-long keys level e = ap length e ∙ length-from (λ p. climb (nth keys p) level) 44 0
+
 module _ (wide : Bool) (heights : List ℕ) where
   key-at : (p : ℕ) → p < 44 → nth (keysOf wide heights) p ≡ keyOf wide p (nth heights p)
   unfolding keysOf
   key-at p h = getD-table (λ p. keyOf wide p (nth heights p)) 44 0 p h
 
-  pub keys-low : Room heights → (p : ℕ) → p < 44 → nth (keysOf wide heights) p ≤ 65535
-  keys-low r p h = rw (key-at p h) (key-low wide p (nth heights p) (r p h .1))
+  pub room-le : (p : ℕ) → Room heights → p < 44 → nth heights p ≤ 976
+  room-le p r h = r p h .1
 
-  pub keys-keyed : Keyed (keysOf wide heights)
-  keys-keyed p h = rw (key-at p h) (key-low-bits wide p (nth heights p) h)
+  pub keys-made : {out : List ℕ} {i : ℕ} → Filling 44 (λ p. keyOf wide p (nth heights p)) out i → 44 ≤ i → out ≡ keysOf wide heights
+  unfolding keysOf
+  keys-made = filling-done
+
+  module _ {keys : List ℕ} (e : keys ≡ keysOf wide heights) where
+    pub keys-low : Room heights → (p : ℕ) → p < 44 → nth keys p ≤ 65535
+    keys-low r p h = rw (e, key-at p h) (key-low wide p (nth heights p) (r p h .1))
+
+    pub keys-keyed : Keyed keys
+    keys-keyed p h = rw (e, key-at p h) (key-low-bits wide p (nth heights p) h)
 
   begin-flat : (budget : ℕ) → Room heights → Flat (begin lengthOf (nth heights) (competing wide) budget) (keysOf wide heights)
   unfolding fresh spot keyOf
@@ -86,7 +96,8 @@ module _ (g : Game) (keys : List ℕ) (l : Flat g keys) (level : ℕ) (pays : bi
   end-left : left ≡ contest 396 g .left
   end-left = sym (ap (λ (k : Game). k .left) end ∙ thinned-left (state g rates left) ∙ state-left g keys l rates left)
 
-  whole : _≡_ {A = Ends} (record { rates = rates; left = left }) (record { rates = table 44 (λ p. at (contest 396 g .bands) p .rate); left = contest 396 g .left })
+  whole : _≡_ {A = Ends} (record { rates = rates; left = left })
+      (record { rates = table 44 (λ p. at (contest 396 g .bands) p .rate); left = contest 396 g .left })
   whole =
       let a : rates ≡ table 44 (λ p. at (contest 396 g .bands) p .rate) = filled (λ p. at (contest 396 g .bands) p .rate) 44 0 rates (f .whole) end-rate in
       let b = end-left in

@@ -1,5 +1,4 @@
--- Each way that the test can go.
--- Assumes nothing.
+-- Each way that the test can go. Assumes nothing.
 use Rattle.contest.specs.Bands.{competing}
 use Rattle.levels.proofs.competes.Statement.{statement}
 use Rattle.levels.proofs.competes.Tie as tie

@@ -1,5 +1,4 @@
--- The lengths by band: both lists compute to the same.
--- Assumes nothing.
+-- The lengths by band: both lists compute to the same. Assumes nothing.
 use mathlib.Core.Path.{refl}
 use Rattle.contest.specs.Bands.{lengthOf}
 use Rattle.ground.specs.Fills.{from}

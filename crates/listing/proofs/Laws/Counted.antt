@@ -87,7 +87,8 @@ lines-counted zero number [] = refl
 lines-counted zero number (b ∷ s) = refl
 lines-counted (suc n) number [] = refl
 lines-counted (suc n) number (b ∷ s) =
-    line-counted number (b ∷ s) (storedAt (b ∷ s)) (stored-fits (b ∷ s) (omega arith)) (λ k. lines n (number + 1) (drop k (b ∷ s))) (λ k. walk n (drop k (b ∷ s)))
+    line-counted number (b ∷ s) (storedAt (b ∷ s)) (stored-fits (b ∷ s) (omega arith)) (λ k. lines n (number + 1) (drop k (b ∷ s)))
+    (λ k. walk n (drop k (b ∷ s)))
     (λ k. lines-counted n (number + 1) (drop k (b ∷ s)))
 
 pub listing-counted : (src : List ℕ) → length src ≤ mostBytes

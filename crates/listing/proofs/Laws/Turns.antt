@@ -1,4 +1,4 @@
--- Laws of specs/Turns.
+-- A listing so far: the frames passed, the lines that are laid, and those that are left; one turn of it, and its ends.
 -- Assumes nothing.
 use mathlib.Core.Path.{_≡_, refl, sym, ap, ap₂, _∙_}
 use mathlib.Core.Bool.{true}
@@ -81,11 +81,13 @@ module _ (src out₀ out : List ℕ) (next count place : ℕ) (p : Listed src ou
   pub listed-end : length src ≤ place → Complete src out₀ out (madeLines (madeCheck done count place) next)
   listed-end h =
       let z : length (drop place src) ≡ 0 = omega (arith, length-drop place src) in
-      complete src out₀ out (p .text) next (madeCheck done count place) (p .laid) (ended (mostFrames - count) refl (lines-end (mostFrames - count) count (drop place src) z))
+      complete src out₀ out (p .text) next (madeCheck done count place) (p .laid)
+      (ended (mostFrames - count) refl (lines-end (mostFrames - count) count (drop place src) z))
       (answered (p .passed) (mostFrames - count) refl done (walk-end frameStep (mostFrames - count) (drop place src) z))
 
   module _ (h : place < length src) (l : (count ≡ mostFrames) → ⊥)
-      (codes tail : ℕ) (ec : codes ≡ 800) (et : tail ≡ 320) (r : Reading) (e : r ≡ readingOf (readAnswer (take (length src - place) (drop place src)) codes tail)) where
+      (codes tail : ℕ) (ec : codes ≡ 800) (et : tail ≡ 320) (r : Reading)
+      (e : r ≡ readingOf (readAnswer (take (length src - place) (drop place src)) codes tail)) where
     told-reply : r .reply ≡ readingOf (storedAt (drop place src)) .reply
     told-reply = ap (λ (z : Reading). z .reply) (told src place codes tail ec et r e)
 
@@ -100,7 +102,8 @@ module _ (src out₀ out : List ℕ) (next count place : ℕ) (p : Listed src ou
 
     -- the lines that are left begin with this frame's
     first : lines (mostFrames - count) count (drop place src)
-        ≡ frameLine count (r .reply) (r .next - 1) ++ behind (storedAt (drop place src)) (λ k. lines (mostFrames - (count + 1)) (count + 1) (drop k (drop place src)))
+        ≡ frameLine count (r .reply) (r .next - 1) ++ behind (storedAt (drop place src))
+        (λ k. lines (mostFrames - (count + 1)) (count + 1) (drop k (drop place src)))
     first =
         let o = storedAt (drop place src) in
         let more = behind o (λ k. lines (mostFrames - (count + 1)) (count + 1) (drop k (drop place src))) in
@@ -113,7 +116,8 @@ module _ (src out₀ out : List ℕ) (next count place : ℕ) (p : Listed src ou
 
     module _ (bytes : ℕ) (eb : bytes ≡ r .next - 1) where
       whole : lines mostFrames 0 src
-          ≡ (p .text ++ frameLine count (r .reply) bytes) ++ behind (storedAt (drop place src)) (λ k. lines (mostFrames - (count + 1)) (count + 1) (drop k (drop place src)))
+          ≡ (p .text ++ frameLine count (r .reply) bytes) ++ behind (storedAt (drop place src))
+          (λ k. lines (mostFrames - (count + 1)) (count + 1) (drop k (drop place src)))
       whole =
           let more = behind (storedAt (drop place src)) (λ k. lines (mostFrames - (count + 1)) (count + 1) (drop k (drop place src))) in
           p .whole ∙ ap (λ (t : List ℕ). p .text ++ t) (first ∙ ap (λ (k : ℕ). frameLine count (r .reply) k ++ more) (sym eb))
@@ -152,7 +156,9 @@ module _ (src out₀ out : List ℕ) (next count place : ℕ) (p : Listed src ou
             let k = mostFrames - (count + 1) in
             let q′ : readingOf o .next ≡ 0 → ⊥ = λ z. q (told-next ∙ z) in
             record {
-              passed = let g = reading-passes (drop place src) r (told src place codes tail ec et r e) (ap isSound told-reply ∙ sound-next o q′) in passed-more (p .passed) h l (r .next) (frame-lawful .told (drop place src) (r .next) g .1) g;
+              passed =
+                  let g = reading-passes (drop place src) r (told src place codes tail ec et r e) (ap isSound told-reply ∙ sound-next o q′) in passed-more
+                  (p .passed) h l (r .next) (frame-lawful .told (drop place src) (r .next) g .1) g;
               text = t;
               laid = then (p .laid) m;
               whole =

@@ -57,7 +57,8 @@ pub listing-lines : (src : List ℕ) → length src ≤ mostBytes → listingOf 
 unfolding listingOf
 listing-lines src h = rw (le-ltb mostBytes (length src) h)
 
-pub long-laid : (src out out′ : List ℕ) (n : ℕ) → room ≤ length out → mostBytes < length src → Laid out 0 tooLong out′ n → Kept src out out′ (madeListing done n)
+pub long-laid : (src out out′ : List ℕ) (n : ℕ) → room ≤ length out → mostBytes < length src → Laid out 0 tooLong out′ n
+    → Kept src out out′ (madeListing done n)
 long-laid src out out′ n h m l = all-laid src out out′ n h (subst (λ (t : List ℕ). Laid out 0 t out′ n) (sym (listing-long src m)) l)
 
 module _ (src out out₁ : List ℕ) (r : Lines) (k : Complete src out out₁ r) (h : length src ≤ mostBytes) (q : room ≤ length out) where

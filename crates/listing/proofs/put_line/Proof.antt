@@ -1,12 +1,11 @@
 -- `listing::put_line` meets its contract: its parts one after the other. Assumes nothing.
-use mathlib.Core.Path.{ap, subst}
-use Prim.Native.Nat.{ℕ}
+use mathlib.Core.Path.{_≡_, ap}
+use Prim.Native.Nat.{ℕ, _+_, _≤_}
 use native.Mathlib.Omega.{arith}
 use denote.Ref.{now}
 use lib.ListN.{length}
-use Rattle.decimals.specs.Decimals.{decimal}
+use Rattle.decimals.specs.Decimals.{decimal, digits}
 use Rattle.listing.specs.Text.{frameLine}
-use Rattle.ground.specs.Laying.{Laid}
 use Rattle.ground.proofs.Laws.Laying.{laid-long, then}
 use Rattle.decimals.proofs.Laws.Numbers.{length-digits}
 use Rattle.listing.proofs.Laws.Numbers.{length-line}
@@ -14,167 +13,44 @@ use borrow.Author.Needs.{needs}
 use Rattle.listing.proofs.put_line.Statement.{statement}
 use Rattle.listing.proofs.put_line.Tie as tie
 
-wide-requires : tie.Need-wide-requires
-wide-requires c κs = search needs
+-- the room that is asked, by the lengths of the two numbers
+room : (w : tie.After-wide) → let a : tie.Start = search in
+    a .args .at + (7 + (length (decimal (w .wide .result)) + length (decimal (a .args .bytes)))) ≤ length (now (a .args .out))
+room w =
+    let a : tie.Start = search in
+    omega (arith, length-line (a .args .number) (a .args .reply) (a .args .bytes), ap (λ (n : ℕ). length (decimal n)) (w .wide .ensures .0))
 
-put-digits-requires : tie.Need-put-digits-requires
-put-digits-requires c κs =
-    let w = c .before in
-    let d = w .before .before in
-    omega (
-      arith,
-      d .pre .1,
-      length-line (d .args .number) (d .args .reply) (d .args .bytes),
-      ap (λ (n : ℕ). length (decimal n)) (w .wide .ensures .0),
-    )
-
-slice-aggregate-put : tie.Need-slice-aggregate-put
-slice-aggregate-put c = search needs
-
-put-requires : tie.Need-put-requires
-put-requires c κs =
-    let w = c .before .before .before .before .before .before in
-    let d = w .before .before in
-    let l1 = c .before .before .before .before .put-digits .ensures in
-    omega (
-      arith,
-      d .pre .1,
-      length-line (d .args .number) (d .args .reply) (d .args .bytes),
-      length-digits 4 (d .args .number),
-      ap (λ (n : ℕ). length (decimal n)) (w .wide .ensures .0),
-      l1 .after,
-      laid-long l1,
-    )
-
-put-decimal-requires : tie.Need-put-decimal-requires
-put-decimal-requires c κs =
-    let w = c .before .before .before .before .before .before .before .before .before .before in
-    let d = w .before .before in
-    let l1 = c .before .before .before .before .before .before .before .before .put-digits .ensures in
-    let l2 = c .before .before .before .put .ensures in (
-      omega (arith, w .wide .ensures .1),
-      omega (
-        arith,
-        d .pre .1,
-        length-line (d .args .number) (d .args .reply) (d .args .bytes),
-        length-digits 4 (d .args .number),
-        ap (λ (n : ℕ). length (decimal n)) (w .wide .ensures .0),
-        l1 .after,
-        laid-long l1,
-        l2 .after,
-        laid-long l2,
-      ),
-    )
-
-slice-aggregate-put-2 : tie.Need-slice-aggregate-put-2
-slice-aggregate-put-2 c = search needs
-
-put-requires-2 : tie.Need-put-requires-2
-put-requires-2 c κs =
-    let w = c .before .before .before .before .before .before .before .before .before .before .before .before .before .before .before in
-    let d = w .before .before in
-    let l1 = c .before .before .before .before .before .before .before .before .before .before .before .before .before .put-digits .ensures in
-    let l2 = c .before .before .before .before .before .before .before .before .put .ensures in
-    let l3 = c .before .before .before .before .put-decimal .ensures in
-    omega (
-      arith,
-      d .pre .1,
-      length-line (d .args .number) (d .args .reply) (d .args .bytes),
-      length-digits 4 (d .args .number),
-      ap (λ (n : ℕ). length (decimal n)) (w .wide .ensures .0),
-      l1 .after,
-      laid-long l1,
-      l2 .after,
-      laid-long l2,
-      l3 .after,
-      laid-long l3,
-    )
-
-put-decimal-requires-2 : tie.Need-put-decimal-requires-2
-put-decimal-requires-2 c κs =
-    let w = c .before .before .before .before .before .before .before .before .before .before .before .before .before .before .before .before .before .before .before in
-    let d = w .before .before in
-    let l1 = c .before .before .before .before .before .before .before .before .before .before .before .before .before .before .before .before .before .put-digits .ensures in
-    let l2 = c .before .before .before .before .before .before .before .before .before .before .before .before .put .ensures in
-    let l3 = c .before .before .before .before .before .before .before .before .put-decimal .ensures in
-    let l4 = c .before .before .before .put2 .ensures in (
-      d .pre .0,
-      omega (
-        arith,
-        d .pre .1,
-        length-line (d .args .number) (d .args .reply) (d .args .bytes),
-        length-digits 4 (d .args .number),
-        ap (λ (n : ℕ). length (decimal n)) (w .wide .ensures .0),
-        l1 .after,
-        laid-long l1,
-        l2 .after,
-        laid-long l2,
-        l3 .after,
-        laid-long l3,
-        l4 .after,
-        laid-long l4,
-      ),
-    )
-
-slice-aggregate-put-3 : tie.Need-slice-aggregate-put-3
-slice-aggregate-put-3 c = search needs
-
-put-requires-3 : tie.Need-put-requires-3
-put-requires-3 c κs =
-    let w = c .before .before .before .before .before .before .before .before .before .before .before .before .before .before .before .before .before .before .before .before .before .before .before .before in
-    let d = w .before .before in
-    let l1 = c .before .before .before .before .before .before .before .before .before .before .before .before .before .before .before .before .before .before .before .before .before .before .put-digits .ensures in
-    let l2 = c .before .before .before .before .before .before .before .before .before .before .before .before .before .before .before .before .before .put .ensures in
-    let l3 = c .before .before .before .before .before .before .before .before .before .before .before .before .before .put-decimal .ensures in
-    let l4 = c .before .before .before .before .before .before .before .before .put2 .ensures in
-    let l5 = c .before .before .before .before .put-decimal2 .ensures in
-    omega (
-      arith,
-      d .pre .1,
-      length-line (d .args .number) (d .args .reply) (d .args .bytes),
-      length-digits 4 (d .args .number),
-      ap (λ (n : ℕ). length (decimal n)) (w .wide .ensures .0),
-      l1 .after,
-      laid-long l1,
-      l2 .after,
-      laid-long l2,
-      l3 .after,
-      laid-long l3,
-      l4 .after,
-      laid-long l4,
-      l5 .after,
-      laid-long l5,
-    )
-
-same-length : tie.Need-same-length
-same-length c = search needs
+four : (p : tie.After-put-digits) → let a : tie.Start = search in length (digits 4 (a .args .number)) ≡ 4
+four p = let a : tie.Start = search in length-digits 4 (a .args .number)
 
 returns : tie.Need-returns
 unfolding frameLine
 returns c =
-    let w = c .before .before .before .before .before .before .before .before .before .before .before .before .before .before .before .before .before .before .before .before .before .before .before .before .before .before .before in
-    let d = w .before .before in
-    subst (λ (x : ℕ). Laid (now (d .args .out)) (d .args .at) (frameLine (d .args .number) x (d .args .bytes)) (c .before .before .put3 .last .0) (c .before .before .put3 .result)) (w .wide .ensures .0)
-    (then (c .before .before .before .before .before .before .before .before .before .before .before .before .before .before .before .before .before .before .before .before .before .before .before .before .before .put-digits .ensures)
-    (then (c .before .before .before .before .before .before .before .before .before .before .before .before .before .before .before .before .before .before .before .before .put .ensures)
-    (then (c .before .before .before .before .before .before .before .before .before .before .before .before .before .before .before .before .put-decimal .ensures)
-    (then (c .before .before .before .before .before .before .before .before .before .before .before .put2 .ensures)
-    (then (c .before .before .before .before .before .before .before .put-decimal2 .ensures)
-    (c .before .before .put3 .ensures))))))
+    let p6 : tie.After-put3 = search in
+    let p5 : tie.After-put-decimal2 = search in
+    let p4 : tie.After-put2 = search in
+    let p3 : tie.After-put-decimal = search in
+    let p2 : tie.After-put = search in
+    let p1 : tie.After-put-digits = search in
+    let w : tie.After-wide = search in
+    rw (← w .wide .ensures .0)
+    (then (p1 .put-digits .ensures)
+    (then (p2 .put .ensures)
+    (then (p3 .put-decimal .ensures) (then (p4 .put2 .ensures) (then (p5 .put-decimal2 .ensures) (p6 .put3 .ensures))))))
 
 pub put-line-spec : {M : Type 1} → statement M
 put-line-spec =
     tie.close
     (tie.spec
-    wide-requires
-    put-digits-requires
-    slice-aggregate-put
-    put-requires
-    put-decimal-requires
-    slice-aggregate-put-2
-    put-requires-2
-    put-decimal-requires-2
-    slice-aggregate-put-3
-    put-requires-3
-    same-length
+    (λ c κs. search needs)
+    (λ c κs. omega (arith, room (search)))
+    (λ c. search needs)
+    (λ c κs. omega (arith, room (search), laid-long, four (search)))
+    (λ c κs. (omega arith, omega (arith, room (search), laid-long, four (search))))
+    (λ c. search needs)
+    (λ c κs. omega (arith, room (search), laid-long, four (search)))
+    (λ c κs. (search needs, omega (arith, room (search), laid-long, four (search))))
+    (λ c. search needs)
+    (λ c κs. omega (arith, room (search), laid-long, four (search)))
+    (λ c. search needs)
     returns)

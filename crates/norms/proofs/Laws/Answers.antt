@@ -33,16 +33,25 @@ module _ (transient : Bool) (norms : List ℕ) where
   unfolding normReply
   reply-first e h = rw (e, lt-leb (getD norms 0 0) 31 h)
 
-  pub reply-steps : (t : Bool) → inRange norms 44 ≡ true → getD norms 0 0 ≤ 31 → stepsClose (sent transient norms) ≡ t → cond t done farApart ≡ normReply transient norms
+  pub reply-steps : (t : Bool) → inRange norms 44 ≡ true → getD norms 0 0 ≤ 31 → stepsClose (sent transient norms) ≡ t
+      → cond t done farApart ≡ normReply transient norms
   unfolding normReply
   reply-steps t e h q = rw (e, le-leb (getD norms 0 0) 31 h, q)
+
+  module _ {ss : List ℕ} {b : Bool} (r : inRange norms 44 ≡ true) (h : getD norms 0 0 ≤ 31) (es : ss ≡ sent transient norms) (eb : b ≡ stepsClose ss) where
+    pub reply-close : b ≡ true → done ≡ normReply transient norms
+    reply-close q = reply-steps true r h (sym (eb ∙ ap stepsClose es) ∙ q)
+
+    pub reply-far : b ≡ false → farApart ≡ normReply transient norms
+    reply-far q = reply-steps false r h (sym (eb ∙ ap stepsClose es) ∙ q)
 
   pub choice-no : (r : ℕ) → r ≡ normReply transient norms → (r ≡ 0 → ⊥) → record { reply = r; flag = false } ≡ choiceOf transient norms
   unfolding choiceOf
   choice-no r e n = rw (← e, ne-eqb r 0 n)
 
   module _ (l : length norms ≡ 44) where
-    total : (ws : List ℕ) → 0 < length ws → length (writeAll (map coding (normKinds true)) ws) ≡ 5 + length (writeAll (map coding (replicate 43 20)) (drop 1 ws))
+    total : (ws : List ℕ) → 0 < length ws
+        → length (writeAll (map coding (normKinds true)) ws) ≡ 5 + length (writeAll (map coding (replicate 43 20)) (drop 1 ws))
     total [] h = absurd (omega arith)
     total (w ∷ ws) h = bits-split true w ws
 
@@ -51,7 +60,8 @@ module _ (transient : Bool) (norms : List ℕ) where
     unfolding normBits wordTotal
     total-bits = total (numbersOf transient norms) (omega (arith, length-numbers 15 (sent transient norms), length-sent transient norms l))
 
-    pub choice-yes : (r n : ℕ) → r ≡ normReply transient norms → r ≡ 0 → n ≡ length (normBits transient true norms) → record { reply = done; flag = ltb n 220 } ≡ choiceOf transient norms
+    pub choice-yes : (r n : ℕ) → r ≡ normReply transient norms → r ≡ 0 → n ≡ length (normBits transient true norms)
+        → record { reply = done; flag = ltb n 220 } ≡ choiceOf transient norms
     unfolding choiceOf
     choice-yes r n e z q =
         let m : n ≡ 5 + wordTotal transient norms = q ∙ total-bits in

@@ -7,12 +7,16 @@ use Prim.Native.Nat.{ℕ, suc, _+_, _-_, _≤_, _<_}
 use native.Mathlib.Omega.{arith}
 use native.Mathlib.Numerals.{add-one}
 use lib.Dec.{leb}
-use lib.ListN.{length, getD, take, drop, set, length-set, drop-of-length-le, take-append-drop}
+use lib.ListN.{length, getD, take, drop, set, replicate, length-set, drop-of-length-le, take-append-drop}
 use lib.Seq.{drop-cons, take-suc-set}
 use borrow.Author.Tests.{lt-leb, le-leb}
 use Rattle.bits.specs.Codecs.{Check, fine, bad}
 use Rattle.bits.specs.declared.Refusal.the-variants.{Outside}
-use Rattle.norms.specs.Steps.{indices, guarded, close, stepsClose}
+use Rattle.ground.specs.Fills.{filled}
+use Rattle.ground.proofs.Laws.Fills.{fill}
+use Rattle.norms.specs.Steps.{indices, numbers, guarded, close, stepsClose}
+use Rattle.norms.specs.Inner.{indicesOf}
+use Rattle.norms.proofs.Laws.Steps.{numberAt, numbers-table}
 
 -- ---- indices from numbers: the first i stand in out, and the last of them is x
 
@@ -34,50 +38,83 @@ pub record Stepping (ws out : List ℕ) (x i : ℕ) : Type 0 where
   pub small : x ≤ 39
   pub said : indices 15 ws ≡ onto (take i out) (indices x (drop i ws))
 
-pub step-start : (ws out : List ℕ) → length out ≡ 44 → Stepping ws out 15 0
-step-start ws out l = record { upto = omega arith; long = l; small = omega arith; said = onto-nil (indices 15 ws) }
+module _ {ws : List ℕ} where
+  pub step-start : Stepping ws (replicate 44 0) 15 0
+  step-start = record { upto = omega arith; long = refl; small = omega arith; said = onto-nil (indices 15 ws) }
 
-module _ (ws out : List ℕ) (x i : ℕ) (I : Stepping ws out x i) where
-  module _ (y : ℕ) (l : length ws ≡ 44) (h : i < 44) (e : y ≡ x + getD ws i 0) where
-    one : indices x (drop i ws) ≡ guarded (leb 15 y) (leb y 54) (y - 15) (indices (y - 15) (drop (suc i) ws))
+  module _ {out : List ℕ} {x i : ℕ} (I : Stepping ws out x i) (l : length ws ≡ 44) where
+    module _ (h : i < 44) {z : ℕ} (e : z ≡ getD ws i 0) where
+      one : indices x (drop i ws) ≡ guarded (leb 15 (x + z)) (leb (x + z) 54) (x + z - 15) (indices (x + z - 15) (drop (suc i) ws))
+      unfolding indices
+      one =
+          ap (indices x) (drop-cons ws i 0 (omega arith))
+          ∙ ap (λ (w : ℕ). guarded (leb 15 (x + w)) (leb (x + w) 54) (x + w - 15) (indices (x + w - 15) (drop (suc i) ws))) (sym e)
+
+      pub step-low : x + z < 15 → record { sound = false; norms = replicate 44 0 } ≡ indicesOf (indices 15 ws)
+      step-low a =
+          let y = x + z in
+          let q : guarded (leb 15 y) (leb y 54) (y - 15) (indices (y - 15) (drop (suc i) ws)) ≡ bad Outside = rw (lt-leb 15 y a) in
+          sym (ap indicesOf (I .said ∙ ap (onto (take i out)) (one ∙ q)))
+
+      pub step-high : 15 ≤ x + z → 54 < x + z → record { sound = false; norms = replicate 44 0 } ≡ indicesOf (indices 15 ws)
+      step-high a b =
+          let y = x + z in
+          let q : guarded (leb 15 y) (leb y 54) (y - 15) (indices (y - 15) (drop (suc i) ws)) ≡ bad Outside = rw (le-leb 15 y a, lt-leb y 54 b) in
+          sym (ap indicesOf (I .said ∙ ap (onto (take i out)) (one ∙ q)))
+
+      pub step-turn : 15 ≤ x + z → x + z ≤ 54 → Stepping ws (set out i (x + z - 15)) (x + z - 15) (i + 1)
+      step-turn a b =
+          let y = x + z in
+          let o : i < length out = omega (arith, I .long) in
+          let front : take i out ++ ((y - 15) ∷ []) ≡ take (i + 1) (set out i (y - 15)) =
+          sym (take-suc-set out i (y - 15) o) ∙ ap (λ (k : ℕ). take k (set out i (y - 15))) (sym (add-one i)) in
+          let q : guarded (leb 15 y) (leb y 54) (y - 15) (indices (y - 15) (drop (suc i) ws))
+          ≡ guarded true true (y - 15) (indices (y - 15) (drop (suc i) ws)) =
+          rw (le-leb 15 y a, le-leb y 54 b) in
+          record {
+            upto = omega arith;
+            long = length-set out i (y - 15) ∙ I .long;
+            small = omega arith;
+            said =
+                I .said ∙ ap (onto (take i out)) (one ∙ q) ∙ onto-one (take i out) (y - 15) (indices (y - 15) (drop (suc i) ws))
+                ∙ ap₂ (λ (u : List ℕ) (k : ℕ). onto u (indices (y - 15) (drop k ws))) front (sym (add-one i));
+          }
+
+    pub step-end : 44 ≤ i → record { sound = true; norms = out } ≡ indicesOf (indices 15 ws)
     unfolding indices
-    one =
-        ap (indices x) (drop-cons ws i 0 (omega arith))
-        ∙ ap (λ (z : ℕ). guarded (leb 15 z) (leb z 54) (z - 15) (indices (z - 15) (drop (suc i) ws))) (sym e)
+    step-end h =
+        let t : take i out ≡ out =
+        sym (append-nil (take i out)) ∙ ap (λ (z : List ℕ). take i out ++ z) (sym (drop-of-length-le out {i = i} (omega (arith, I .long))))
+        ∙ take-append-drop i out in
+        sym
+        (ap indicesOf
+        (I .said ∙ ap (λ (z : List ℕ). onto (take i out) (indices x z)) (drop-of-length-le ws {i = i} (omega arith))
+        ∙ ap fine (append-nil (take i out) ∙ t)))
 
-    pub step-low : y < 15 → indices 15 ws ≡ bad Outside
-    step-low a =
-        let z : guarded (leb 15 y) (leb y 54) (y - 15) (indices (y - 15) (drop (suc i) ws)) ≡ bad Outside = rw (lt-leb 15 y a) in
-        I .said ∙ ap (onto (take i out)) (one ∙ z)
+-- ---- numbers from indices: the first i stand in out, and x is the index before place i
 
-    pub step-high : 15 ≤ y → 54 < y → indices 15 ws ≡ bad Outside
-    step-high a b =
-        let z : guarded (leb 15 y) (leb y 54) (y - 15) (indices (y - 15) (drop (suc i) ws)) ≡ bad Outside = rw (le-leb 15 y a, lt-leb y 54 b) in
-        I .said ∙ ap (onto (take i out)) (one ∙ z)
+pub record Numbering (ss out : List ℕ) (x i : ℕ) : Type 0 where
+  pub upto : i ≤ 44
+  pub long : length out ≡ 44
+  pub last : x ≡ getD (15 ∷ ss) i 0
+  pub said : (k : ℕ) → k < i → getD out k 0 ≡ numberAt ss k
 
-    pub step-turn : 15 ≤ y → y ≤ 54 → Stepping ws (set out i (y - 15)) (y - 15) (i + 1)
-    step-turn a b =
-        let o : i < length out = omega (arith, I .long) in
-        let front : take i out ++ ((y - 15) ∷ []) ≡ take (i + 1) (set out i (y - 15)) =
-        sym (take-suc-set out i (y - 15) o) ∙ ap (λ (k : ℕ). take k (set out i (y - 15))) (sym (add-one i)) in
-        let z : guarded (leb 15 y) (leb y 54) (y - 15) (indices (y - 15) (drop (suc i) ws)) ≡ guarded true true (y - 15) (indices (y - 15) (drop (suc i) ws)) =
-        rw (le-leb 15 y a, le-leb y 54 b) in
+module _ {ss : List ℕ} where
+  pub number-start : Numbering ss (replicate 44 0) 15 0
+  number-start = record { upto = omega arith; long = refl; last = refl; said = λ k h. absurd (omega arith) }
+
+  module _ {out : List ℕ} {x i : ℕ} (I : Numbering ss out x i) where
+    pub number-turn : {y v : ℕ} → i < 44 → y ≡ getD ss i 0 → v ≡ y + 15 - x → Numbering ss (set out i v) y (i + 1)
+    number-turn {y} {v} h ey ev =
         record {
           upto = omega arith;
-          long = length-set out i (y - 15) ∙ I .long;
-          small = omega arith;
-          said =
-              I .said ∙ ap (onto (take i out)) (one ∙ z) ∙ onto-one (take i out) (y - 15) (indices (y - 15) (drop (suc i) ws))
-              ∙ ap₂ (λ (u : List ℕ) (k : ℕ). onto u (indices (y - 15) (drop k ws))) front (sym (add-one i));
+          long = length-set out i v ∙ I .long;
+          last = ey ∙ ap (λ (k : ℕ). getD (15 ∷ ss) k 0) (sym (add-one i));
+          said = fill (numberAt ss) 0 out i v (omega (arith, I .long)) (I .said) (ev ∙ ap₂ (λ (u w : ℕ). u + 15 - w) ey (I .last));
         }
 
-  pub step-end : length ws ≡ 44 → 44 ≤ i → indices 15 ws ≡ fine out
-  unfolding indices
-  step-end l h =
-      let t : take i out ≡ out =
-      sym (append-nil (take i out)) ∙ ap (λ (z : List ℕ). take i out ++ z) (sym (drop-of-length-le out {i = i} (omega (arith, I .long)))) ∙ take-append-drop i out in
-      I .said ∙ ap (λ (z : List ℕ). onto (take i out) (indices x z)) (drop-of-length-le ws {i = i} (omega arith))
-      ∙ ap fine (append-nil (take i out) ∙ t)
+    pub number-end : length ss ≡ 44 → 44 ≤ i → out ≡ numbers 15 ss
+    number-end l h = filled (numberAt ss) 44 0 out (I .long) (λ k b. I .said k (omega arith)) ∙ sym (numbers-table ss l)
 
 -- ---- the test of the differences: those before place i are close
 

@@ -1,6 +1,6 @@
 -- Laws of specs/Part.
 -- Assumes nothing.
-use mathlib.Core.Path.{_≡_}
+use mathlib.Core.Path.{_≡_, ap, ap₂, _∙_}
 use mathlib.Core.Bool.{Bool, true, false, cond, _&&_}
 use mathlib.Core.List.{List, [], _∷_, map}
 use Prim.Native.Nat.{ℕ, zero, suc, _+_, _*_, _≤_, _<_}
@@ -9,7 +9,7 @@ use lib.Dec.{T, leb, leb→le}
 use lib.ListN.{length, getD, replicate, length-append}
 use Rattle.ground.specs.Cases.{and-T}
 use Rattle.ground.specs.Tables.{every, every-at}
-use Rattle.bits.specs.Bits.{word}
+use Rattle.bits.specs.Bits.{word, laid}
 use Rattle.bits.specs.Numbers.{length-word}
 use Rattle.bits.specs.Codings.{Coding, wordOf, Fit}
 use Rattle.bits.specs.Codecs.{words, writeAll, FitAll}
@@ -18,6 +18,8 @@ use Rattle.words.specs.Answers.{coding-fixed, coding-column}
 use Rattle.words.specs.Spell.{word-fixed}
 use Rattle.words.proofs.Laws.Spell.{word-column}
 use Rattle.runs.proofs.Laws.Writes.{run-few}
+use Rattle.order.specs.Order.{sent}
+use Rattle.norms.specs.Steps.{numbers}
 use Rattle.norms.specs.Part.{normKinds, Writable, numbersOf, normBits, kinds-long, norms-whole}
 
 pub kinds-plain : (flagN : Bool) → flagN ≡ false → replicate 44 5 ≡ normKinds flagN
@@ -28,10 +30,24 @@ pub kinds-words : (flagN : Bool) → flagN ≡ true → 5 ∷ replicate 43 20 �
 unfolding normKinds
 kinds-words flagN e = rw e
 
+-- ---- the bits as the code makes them: kinds, sent order, numbers
+
+module _ {ks ss ws : List ℕ} (t f : Bool) (norms : List ℕ) (ek : ks ≡ normKinds f) (es : ss ≡ sent t norms) (ew : ws ≡ numbers 15 ss) where
+  bits-are : writeAll (map coding ks) ws ≡ normBits t f norms
+  unfolding normBits
+  bits-are = ap₂ (λ (k v : List ℕ). writeAll (map coding k) v) ek (ew ∙ ap (numbers 15) es)
+
+  pub bits-made : {n : ℕ} → n ≡ length (writeAll (map coding ks) ws) → n ≡ length (normBits t f norms)
+  bits-made e = e ∙ ap length bits-are
+
+  pub bits-laid : {o : List ℕ} (s : List ℕ) (at : ℕ) → o ≡ laid s at (writeAll (map coding ks) ws) → o ≡ laid s at (normBits t f norms)
+  bits-laid s at e = e ∙ ap (laid s at) bits-are
+
 -- ---- how long the part is
 
 module _ (c : Coding) (least most : ℕ) (each : (v : ℕ) → Fit c v → (least ≤ length (wordOf c v)) × (length (wordOf c v) ≤ most)) where
-  run-long : (n : ℕ) (vs : List ℕ) → FitAll (replicate n c) vs → (least * n ≤ length (writeAll (replicate n c) vs)) × (length (writeAll (replicate n c) vs) ≤ most * n)
+  run-long : (n : ℕ) (vs : List ℕ) → FitAll (replicate n c) vs
+      → (least * n ≤ length (writeAll (replicate n c) vs)) × (length (writeAll (replicate n c) vs) ≤ most * n)
   unfolding writeAll
   run-long zero [] f = (omega arith, omega arith)
   run-long zero (v ∷ vs) f = absurd f
@@ -51,14 +67,16 @@ word16 : (v : ℕ) → Fit (coding 20) v → (3 ≤ length (wordOf (coding 20) v
 word16 v f =
     let h : v < length (wordsOf 4) = rw (coding-column 20 (omega arith)) at f in
     let w = getD (wordsOf 4) v [] in
-    let t = and-T (leb 3 (length w)) (leb (length w) 7) (every-at (λ (v : ℕ) (w : List Bool). leb 3 (length w) && leb (length w) 7) (wordsOf 4) [] sizes16 v h) in
+    let t = and-T (leb 3 (length w)) (leb (length w) 7)
+    (every-at (λ (v : ℕ) (w : List Bool). leb 3 (length w) && leb (length w) 7) (wordsOf 4) [] sizes16 v h) in
     rw (coding-column 20 (omega arith), word-column 4 v) (leb→le 3 (length w) (t .0), leb→le (length w) 7 (t .1))
 
 word5 : (v : ℕ) → length (wordOf (coding 5) v) ≡ 5
 word5 v = rw (coding-fixed 5 (omega arith), word-fixed 5 v) (length-word 5 v)
 
 -- the first index alone, and the 43 others
-pub bits-split : (flagN : Bool) (w : ℕ) (ws : List ℕ) → length (writeAll (map coding (normKinds flagN)) (w ∷ ws)) ≡ 5 + length (writeAll (map coding (replicate 43 (cond flagN 20 5))) ws)
+pub bits-split : (flagN : Bool) (w : ℕ) (ws : List ℕ)
+    → length (writeAll (map coding (normKinds flagN)) (w ∷ ws)) ≡ 5 + length (writeAll (map coding (replicate 43 (cond flagN 20 5))) ws)
 unfolding normKinds writeAll
 bits-split flagN w ws = omega (arith, length-append (wordOf (coding 5) w) (writeAll (map coding (replicate 43 (cond flagN 20 5))) ws), word5 w)
 

@@ -68,7 +68,8 @@ module _ (s : List ℕ) (at end : ℕ) (transient flagN : Bool) (kinds : List �
         go : (c : Check (List ℕ)) → indices 15 ws ≡ c
             → record { reply = normOutside; next = 0; norms = replicate 44 0 } ≡ partOf at (end - at) (normPart transient flagN .read (view s at (end - at)))
         go (fine ss) q =
-            absurd (let y : _≡_ {A = Bool} true false = sym (ap (λ (j : Indices). j .sound) (g ∙ ap indicesOf q)) ∙ n in let w : _≡_ {A = ℕ} 0 1 = cc in omega arith)
+            absurd (let y : _≡_ {A = Bool} true false = sym (ap (λ (j : Indices). j .sound) (g ∙ ap indicesOf q)) ∙ n in
+            let w : _≡_ {A = ℕ} 0 1 = cc in omega arith)
         go (bad x) q =
             let o = indices-bad 15 ws x q in
             sym
@@ -83,7 +84,8 @@ module _ (s : List ℕ) (at end : ℕ) (transient flagN : Bool) (kinds : List �
         go : (c : Check (List ℕ)) → indices 15 ws ≡ c
             → record { reply = done; next = next; norms = norms } ≡ partOf at (end - at) (normPart transient flagN .read (view s at (end - at)))
         go (bad x) q =
-            absurd (let y : _≡_ {A = Bool} false true = sym (ap (λ (j : Indices). j .sound) (g ∙ ap indicesOf q)) ∙ n in let w : _≡_ {A = ℕ} 0 1 = cc in omega arith)
+            absurd (let y : _≡_ {A = Bool} false true = sym (ap (λ (j : Indices). j .sound) (g ∙ ap indicesOf q)) ∙ n in
+            let w : _≡_ {A = ℕ} 0 1 = cc in omega arith)
         go (fine ss) q =
             let r = view s next (end - next) in
             let o : norms ≡ banded transient ss = m ∙ ap (λ (j : Indices). banded transient (j .norms)) (g ∙ ap indicesOf q) in

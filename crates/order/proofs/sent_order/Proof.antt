@@ -1,4 +1,4 @@
--- `norms::sent_order` meets its contract: the table that is lent is 01's order. Assumes nothing.
+-- `order::sent_order` meets its contract: the table that is lent is 01's order. Assumes nothing.
 use mathlib.Core.Path.{refl, _∙_}
 use borrow.Author.Tests.{not-true, not-false}
 use Rattle.order.specs.Order.{order, band-place}
@@ -15,7 +15,10 @@ reordered-requires c κs = (refl, λ k h. band-place k h .inside)
 
 returns-2 : tie.Need-returns-2
 unfolding order
-returns-2 c = c .reordered .ensures ∙ sent-turned (c .before .before .before .args .transient) (c .before .before .before .args .norms) (not-false _ (c .before .before .if1 .left))
+returns-2 c =
+    let at-else1 : tie.Else1 = search in
+    let at-start : tie.Start = search in
+    c .reordered .ensures ∙ sent-turned (at-start .args .transient) (at-start .args .norms) (not-false _ (at-else1 .if1 .left))
 
 pub sent-order-spec : {M : Type 1} → statement M
 sent-order-spec = tie.close (tie.spec returns reordered-requires returns-2)

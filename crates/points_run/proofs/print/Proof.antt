@@ -11,65 +11,23 @@ Inv-loop reply numbers i₀ t5 t6 i = i ≤ 8
 abbrev μ-loop : tie.MeasureT-loop
 μ-loop reply numbers i₀ t5 t6 i = 8 - i
 
-print-hex-requires : tie.Need-print-hex-requires Inv-loop μ-loop
-print-hex-requires c κs = search needs
-
-loop-holds : tie.Need-loop-holds Inv-loop μ-loop
-loop-holds c = search needs
-
-slice-aggregate-write-all : tie.Need-slice-aggregate-write-all Inv-loop μ-loop
-slice-aggregate-write-all c = search needs
-
-write-all-requires : tie.Need-write-all-requires Inv-loop μ-loop
-write-all-requires c κs = search needs
-
-mul-print-hex : tie.Need-mul-print-hex Inv-loop μ-loop
-mul-print-hex c = search needs
-
-array-read-print-hex : tie.Need-array-read-print-hex Inv-loop μ-loop
-array-read-print-hex c = search needs
-
-cast-print-hex : tie.Need-cast-print-hex Inv-loop μ-loop
-cast-print-hex c = search needs
-
-print-hex-requires-2 : tie.Need-print-hex-requires-2 Inv-loop μ-loop
-print-hex-requires-2 c κs = search needs
-
-add-i : tie.Need-add-i Inv-loop μ-loop
-add-i c = search needs
-
-loop-less : tie.Need-loop-less Inv-loop μ-loop
-loop-less c = search needs
-
-loop-again : tie.Need-loop-again Inv-loop μ-loop
-loop-again c = search needs
-
-slice-aggregate-write-all-2 : tie.Need-slice-aggregate-write-all-2 Inv-loop μ-loop
-slice-aggregate-write-all-2 c = search needs
-
-write-all-requires-2 : tie.Need-write-all-requires-2 Inv-loop μ-loop
-write-all-requires-2 c κs = search needs
-
-returns : tie.Need-returns Inv-loop μ-loop
-returns c = search needs
-
 pub print-spec : {M : Type 1} → statement M
 print-spec =
     tie.close
     (tie.spec
     Inv-loop
     μ-loop
-    print-hex-requires
-    loop-holds
-    slice-aggregate-write-all
-    write-all-requires
-    mul-print-hex
-    array-read-print-hex
-    cast-print-hex
-    print-hex-requires-2
-    add-i
-    loop-less
-    loop-again
-    slice-aggregate-write-all-2
-    write-all-requires-2
-    returns)
+    (λ c κs. search needs)
+    (λ c. search needs)
+    (λ c. search needs)
+    (λ c κs. search needs)
+    (λ c. search needs)
+    (λ c. search needs)
+    (λ c. search needs)
+    (λ c κs. search needs)
+    (λ c. search needs)
+    (λ c. search needs)
+    (λ c. search needs)
+    (λ c. search needs)
+    (λ c κs. search needs)
+    (λ c. search needs))

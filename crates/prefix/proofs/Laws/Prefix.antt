@@ -95,7 +95,8 @@ byteNamed (field.Is f) = Is (f .0 * 4)
 pub byte-named : (m : ℕ) → byteOf m ≡ byteNamed (lengthOf m)
 byte-named m =
     by-bool (ltb m 20)
-    (λ t. let h = ltb-true m 20 t in byte-mode m h ∙ (let e : byteWith 0 (m + 8) 0 ≡ (m + 8) * 4 = omega arith in ap Is e) ∙ sym (ap byteNamed (length-mode m h)))
+    (λ t. let h = ltb-true m 20 t in byte-mode m h ∙ (let e : byteWith 0 (m + 8) 0 ≡ (m + 8) * 4 = omega arith in ap Is e)
+    ∙ sym (ap byteNamed (length-mode m h)))
     (λ t. let h = ltb-false m 20 t in byte-none m h ∙ sym (ap byteNamed (no-length m h)))
 
 -- a prefix that says data has F 0, and its field L is 8 to 27

@@ -37,7 +37,8 @@ unfolding blockStep
 block-front rest none = refl
 block-front rest (more {k} {f} {s} a fs) =
     let e : frameStep (f ++ (s ++ rest)) ≡ passes (length f) = frame-lawful .front f (s ++ rest) a in
-    let q : blockStep k (drop (length f) (f ++ (s ++ rest))) ≡ passes (length s) = ap (blockStep k) (drop-at f (s ++ rest) (length f) refl) ∙ block-front rest fs in
+    let q : blockStep k (drop (length f) (f ++ (s ++ rest))) ≡ passes (length s) = ap (blockStep k) (drop-at f (s ++ rest) (length f) refl)
+    ∙ block-front rest fs in
     let m : 1 + k ≡ suc k = omega arith in
     ap₂ blockStep m (append-assoc f s rest) ∙ block-passed k (f ++ (s ++ rest)) (length f) e (passes (length s)) q ∙ ap passes (sym (length-append f s))
 
@@ -45,8 +46,10 @@ block-front rest (more {k} {f} {s} a fs) =
 one-more : (n : ℕ) (s : List ℕ) (j i : ℕ) → Stored (take j s) × (j ≤ length s) → Frames n (take i (drop j s)) × (i ≤ length (drop j s))
     → Frames (suc n) (take (j + i) s) × (j + i ≤ length s)
 one-more n s j i a b =
-    let m : 1 + n ≡ suc n = omega arith in
-    (subst (Frames (suc n)) (sym (take-add j i s)) (subst (λ (k : ℕ). Frames k (take j s ++ take i (drop j s))) m (more (a .0) (b .0))), omega (arith, a .1, b .1, length-drop j s))
+    let m : 1 + n ≡ suc n = omega arith in (
+      subst (Frames (suc n)) (sym (take-add j i s)) (subst (λ (k : ℕ). Frames k (take j s ++ take i (drop j s))) m (more (a .0) (b .0))),
+      omega (arith, a .1, b .1, length-drop j s),
+    )
 
 pub block-told : (n : ℕ) (s : List ℕ) (k : ℕ) → blockStep n s ≡ passes k → Frames n (take k s) × (k ≤ length s)
 unfolding blockStep

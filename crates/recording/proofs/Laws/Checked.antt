@@ -83,7 +83,8 @@ module _ {unit : List ℕ → Step} {Whole : List ℕ → Type 0} (L : Lawful un
         let n = mostFrames - (k + 1) in
         let q : mostFrames - k ≡ suc n = omega arith in
         let y = L .number rest x l e in
-        ap (booked b) (walk-units L mostFrames rest f (omega arith) ∙ ap (λ (i : ℕ). ahead k (length s) (walkOver unit i rest)) q ∙ ap (ahead k (length s)) (walk-stops unit n rest l x e) ∙ ahead-stopped k (length s) x)
+        ap (booked b) (walk-units L mostFrames rest f (omega arith) ∙ ap (λ (i : ℕ). ahead k (length s) (walkOver unit i rest)) q
+        ∙ ap (ahead k (length s)) (walk-stops unit n rest l x e) ∙ ahead-stopped k (length s) x)
         ∙ booked-other b (madeCheck x k (length s)) (λ z. omega (arith, y .0))
 
     -- a byte after 3,000: whatever it is
@@ -92,7 +93,8 @@ module _ {unit : List ℕ → Step} {Whole : List ℕ → Type 0} (L : Lawful un
     unfolding checkOver
     byte-behind rest e l =
         let q : mostFrames - k ≡ 0 = omega arith in
-        ap (booked b) (walk-units L mostFrames rest f (omega arith) ∙ ap (λ (i : ℕ). ahead k (length s) (walkOver unit i rest)) q ∙ ap (ahead k (length s)) (walk-full unit rest l) ∙ ahead-stopped k (length s) tooMany
+        ap (booked b) (walk-units L mostFrames rest f (omega arith) ∙ ap (λ (i : ℕ). ahead k (length s) (walkOver unit i rest)) q
+        ∙ ap (ahead k (length s)) (walk-full unit rest l) ∙ ahead-stopped k (length s) tooMany
         ∙ ap (λ (i : ℕ). madeCheck tooMany i (length s)) e)
         ∙ booked-other b (madeCheck tooMany mostFrames (length s)) (λ z. omega arith)
 
@@ -125,7 +127,8 @@ module _ {unit : List ℕ → Step} {Whole : List ℕ → Type 0} (L : Lawful un
       t : Checked unit Whole src b (checkOver unit src b)
       t = check-told src b
 
-      go : Reason unit b (t .rest) (checkOver unit src b) → checkOver unit src b .reply ≡ notAsBooked → (k : ℕ) × Units Whole k src × (k ≤ mostFrames) × (k ≡ b → ⊥)
+      go : Reason unit b (t .rest) (checkOver unit src b) → checkOver unit src b .reply ≡ notAsBooked
+          → (k : ℕ) × Units Whole k src × (k ≤ mostFrames) × (k ≡ b → ⊥)
       go (agreed r k q) e = absurd (omega arith)
       go (unbooked r k q) e = (checkOver unit src b .count, all-there src (t .front) (t .rest) _ (t .whole) q (t .units), t .few, k)
       go (passed-all r k l) e = absurd (omega arith)
@@ -139,7 +142,8 @@ module _ {unit : List ℕ → Step} {Whole : List ℕ → Type 0} (L : Lawful un
       t : Checked unit Whole src b (checkOver unit src b)
       t = check-told src b
 
-      all : t .rest ≡ [] → Units Whole (checkOver unit src b .count) src × (checkOver unit src b .count ≤ mostFrames) × (checkOver unit src b .place ≡ length src)
+      all : t .rest ≡ [] → Units Whole (checkOver unit src b .count) src × (checkOver unit src b .count ≤ mostFrames)
+          × (checkOver unit src b .place ≡ length src)
       all q = (
         all-there src (t .front) (t .rest) _ (t .whole) q (t .units),
         t .few,

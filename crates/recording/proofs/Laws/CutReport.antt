@@ -40,5 +40,7 @@ pub cut-report : {k : ℕ} {s : List ℕ} → Frames k s
     → (k < mostFrames → checkOf (s ++ take j f) b ≡ record { reply = cut; count = k; place = length s })
     × (k ≡ mostFrames → checkOf (s ++ take j f) b ≡ record { reply = tooMany; count = mostFrames; place = length s })
 cut-report fs f m x e l j p h b =
-    let n : length (take j f) ≡ j = length-take-le j f (omega arith) in
-    (λ t. refused-behind frame-lawful fs b (take j f) cut t (omega arith) (ap stepOf (first-cut f m x e j p (omega arith))), λ t. byte-behind frame-lawful fs b (take j f) t (omega arith))
+    let n : length (take j f) ≡ j = length-take-le j f (omega arith) in (
+      λ t. refused-behind frame-lawful fs b (take j f) cut t (omega arith) (ap stepOf (first-cut f m x e j p (omega arith))),
+      λ t. byte-behind frame-lawful fs b (take j f) t (omega arith),
+    )

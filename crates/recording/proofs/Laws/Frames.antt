@@ -115,7 +115,8 @@ front-stored f rest p h q e =
     ∙ sym (stored-started f)
 
 front-sound : (f rest : List ℕ) (m : ℕ) → Says f m → storedAt (f ++ rest) ≡ storedAt f
-front-sound f rest m y = front-stored f rest (Data (y .field)) (omega (arith, y .long)) (y .says) (front-data f rest (y .field) (omega (arith, y .bytes, y .long)))
+front-sound f rest m y =
+    front-stored f rest (Data (y .field)) (omega (arith, y .long)) (y .says) (front-data f rest (y .field) (omega (arith, y .bytes, y .long)))
 
 -- a stored frame followed by anything reads the same
 pub stored-front : (f rest : List ℕ) → Stored f → storedAt (f ++ rest) ≡ storedAt f
@@ -182,7 +183,8 @@ frame-told s k empty e q =
 frame-told s k (sound m x) e q =
     let n : modeBytes m + 1 ≡ k = cc in
     let y = sound-says s m x e in
-    subst (λ (j : ℕ). Stored (take j s) × (j ≤ length s)) n (full m x (first-sound s m x e) (length-take-le (modeBytes m + 1) s (omega (arith, y .long))), omega (arith, y .long))
+    subst (λ (j : ℕ). Stored (take j s) × (j ≤ length s)) n
+    (full m x (first-sound s m x e) (length-take-le (modeBytes m + 1) s (omega (arith, y .long))), omega (arith, y .long))
 
 frame-number : (s : List ℕ) (x : ℕ) (o : Outcome) → Fits s o → stepOf o ≡ stops x → (2 ≤ x) × (x ≤ 7)
 frame-number s x (refused y) f q = let n : y ≡ x = cc in subst (λ (z : ℕ). (2 ≤ z) × (z ≤ 7)) n f

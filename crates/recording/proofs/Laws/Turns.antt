@@ -15,7 +15,8 @@ use Rattle.prefix.specs.declared.Prefix.{Prefix}
 use Rattle.frame.specs.Answers.{Outcome, refused, empty, sound, started, readAnswer, readingOf}
 use Rattle.frame.specs.declared.Reading.{Reading}
 use Rattle.recording.specs.Walk.{Step, stops, passes, stepOf, frameStep, storedAt, madeCheck, stopped, ahead, walkOver, booked, mostFrames, checkOver}
-use Rattle.recording.proofs.Laws.Walk.{stored-started, ahead-none, ahead-ahead, ahead-stopped, booked-done, booked-missed, booked-other, Fits, stored-fits, walk-end, walk-full, walk-stops, walk-passes}
+use Rattle.recording.proofs.Laws.Walk.{stored-started, ahead-none, ahead-ahead, ahead-stopped, booked-done, booked-missed, booked-other, Fits}
+use Rattle.recording.proofs.Laws.Walk.{stored-fits, walk-end, walk-full, walk-stops, walk-passes}
 use Rattle.recording.specs.Inner.{isSound}
 use Rattle.recording.proofs.Laws.Units.{Lawful}
 use Rattle.recording.specs.Blocks.{passingOf}
@@ -70,14 +71,16 @@ module _ (s : List ℕ) (r : Reading) (e : r ≡ readingOf (storedAt s)) where
       step-passes s (storedAt s) refl (ap isSound (sym y) ∙ q) ∙ ap passes (sym x)
 
 -- what a reading of the lent part tells, with the room of a check or with none
-pub told : (src : List ℕ) (at room spare : ℕ) → room ≡ 800 → spare ≡ 320 → (r : Reading) → r ≡ readingOf (readAnswer (take (length src - at) (drop at src)) room spare)
+pub told : (src : List ℕ) (at room spare : ℕ) → room ≡ 800 → spare ≡ 320 → (r : Reading)
+    → r ≡ readingOf (readAnswer (take (length src - at) (drop at src)) room spare)
     → r ≡ readingOf (storedAt (drop at src))
 unfolding storedAt
 told src at room spare er es r e =
     e ∙ ap (λ (s : List ℕ). readingOf (readAnswer s room spare)) (lent src at)
     ∙ ap₂ (λ (c t : ℕ). readingOf (readAnswer (drop at src) c t)) er es
 
-pub told-record : (src : List ℕ) (at : ℕ) (r : Reading) → r ≡ readingOf (started (prefixOf (take (length src - at) (drop at src))) (take (length src - at) (drop at src)))
+pub told-record : (src : List ℕ) (at : ℕ) (r : Reading)
+    → r ≡ readingOf (started (prefixOf (take (length src - at) (drop at src))) (take (length src - at) (drop at src)))
     → r ≡ readingOf (storedAt (drop at src))
 told-record src at r e = e ∙ ap (λ (s : List ℕ). readingOf (started (prefixOf s) s)) (lent src at) ∙ ap readingOf (sym (stored-started (drop at src)))
 
@@ -155,7 +158,8 @@ module _ {unit : List ℕ → Step} {Whole : List ℕ → Type 0} (L : Lawful un
 
   pub unit-passes : p .reply ≡ 0 → Passed unit src (at + p .next) (count + 1)
   unit-passes z =
-      let q = passing-passes p (unit (drop at src)) here-told z (λ x g. let n = L .number (drop at src) x (omega (arith, length-drop at src)) g in omega (arith, n .0)) in
+      let q = passing-passes p (unit (drop at src)) here-told z (λ x g.
+      let n = L .number (drop at src) x (omega (arith, length-drop at src)) g in omega (arith, n .0)) in
       passed-more P h l (p .next) (L .told (drop at src) (p .next) q .1) q
 
 -- ---- held against the booking

@@ -97,4 +97,5 @@ module _ {unit : List ℕ → Step} {Whole : List ℕ → Type 0} (L : Lawful un
     where
       counted : {i : ℕ} → Units Whole i s → i ≤ j + k → walkOver unit (j + k) (s ++ []) .count ≡ i
       counted {i} f h =
-          ap (λ (c : Check). c .count) (walk-units (j + k) [] f h ∙ ap (ahead i (length s)) (walk-end unit (j + k - i) [] refl) ∙ ahead-stopped i (length s) done)
+          ap (λ (c : Check). c .count) (walk-units (j + k) [] f h ∙ ap (ahead i (length s)) (walk-end unit (j + k - i) [] refl)
+          ∙ ahead-stopped i (length s) done)

@@ -148,6 +148,7 @@ walk-same u v e zero (b ∷ s) = refl
 walk-same u v e (suc n) [] = refl
 walk-same u v e (suc n) (b ∷ s) = ap (λ (x : Step). onward x (λ k. walkOver u n (drop k (b ∷ s)))) (e (b ∷ s)) ∙ go (v (b ∷ s)) (λ t. walk-same u v e n t)
   where
-    go : (x : Step) → ((t : List ℕ) → walkOver u n t ≡ walkOver v n t) → onward x (λ k. walkOver u n (drop k (b ∷ s))) ≡ onward x (λ k. walkOver v n (drop k (b ∷ s)))
+    go : (x : Step) → ((t : List ℕ) → walkOver u n t ≡ walkOver v n t)
+        → onward x (λ k. walkOver u n (drop k (b ∷ s))) ≡ onward x (λ k. walkOver v n (drop k (b ∷ s)))
     go (stops x) h = refl
     go (passes k) h = ap (ahead 1 k) (h (drop k (b ∷ s)))

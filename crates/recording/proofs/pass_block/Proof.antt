@@ -4,11 +4,10 @@ use borrow.Author.Needs.{needs}
 use borrow.Author.Tests.{not-true, not-false}
 use denote.Ref.{now}
 use lib.ListN.{drop}
-use mathlib.Core.Path.{_≡_, _∙_, refl, sym, ap}
+use mathlib.Core.Path.{_≡_, _∙_, sym, ap}
 use native.Mathlib.Omega.{arith}
 use Rattle.frame.specs.Answers.{readingOf}
 use Rattle.recording.specs.Walk.{storedAt}
-use Rattle.recording.specs.Inner.{replyBehind}
 use Rattle.recording.proofs.Laws.Turns.{told-record, reading-stops, reading-passes}
 use Rattle.recording.specs.declared.answer.Passing.{Passing}
 use Rattle.recording.proofs.Laws.Begun.{Begun, begun-none, begun-stop, begun-next, begun-end}

@@ -1,7 +1,7 @@
 -- `recording::walk_blocks` meets its contract: each turn puts one sound block more in front of the walk that is left. Assumes nothing.
 use Prim.Native.Nat.{_-_}
 use borrow.Author.Needs.{needs}
-use mathlib.Core.Path.{_≡_, _∙_, refl}
+use mathlib.Core.Path.{_∙_, refl}
 use native.Mathlib.Omega.{arith}
 use Rattle.recording.proofs.Laws.Walk.{made-same}
 use Rattle.recording.specs.Blocks.{blockStep}
@@ -29,14 +29,16 @@ returns-2 c =
     let l : tie.At-loop Inv-loop μ-loop = search in
     let a : tie.Start Inv-loop μ-loop = search in
     m .made-check2 .ensures
-    ∙ unit-stops (block-lawful (a .args .channels) (a .pre)) (l .loop .inv) (omega arith) (λ e. omega arith) (b .pass-block .result) (b .pass-block .ensures) (λ e. omega arith)
+    ∙ unit-stops (block-lawful (a .args .channels) (a .pre)) (l .loop .inv) (omega arith) (λ e. omega arith) (b .pass-block .result) (b .pass-block .ensures)
+    (λ e. omega arith)
 
 loop-again : tie.Need-loop-again Inv-loop μ-loop
 loop-again c =
     let b : tie.After-pass-block Inv-loop μ-loop = search in
     let l : tie.At-loop Inv-loop μ-loop = search in
     let a : tie.Start Inv-loop μ-loop = search in
-    unit-passes (block-lawful (a .args .channels) (a .pre)) (l .loop .inv) (omega arith) (λ e. omega arith) (b .pass-block .result) (b .pass-block .ensures) (omega arith)
+    unit-passes (block-lawful (a .args .channels) (a .pre)) (l .loop .inv) (omega arith) (λ e. omega arith) (b .pass-block .result) (b .pass-block .ensures)
+    (omega arith)
 
 returns-3 : tie.Need-returns-3 Inv-loop μ-loop
 returns-3 c =

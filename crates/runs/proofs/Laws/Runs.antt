@@ -15,9 +15,11 @@ use Rattle.bits.specs.Codecs.{readAll, andThen, andThen-got, writeAll, written-
 use Rattle.bits.specs.declared.Refusal.{Refusal}
 use Rattle.words.specs.Tables.{coding}
 use Rattle.words.specs.Answers.{placed, wordAt}
+use Rattle.words.specs.declared.Word.{Word}
 use Rattle.words.specs.declared.Word.the-variants.{At, No}
+use Rattle.runs.specs.declared.Run.{Run}
 use Rattle.runs.specs.declared.Run.the-variants as run
-use Rattle.runs.specs.Runs.{runAt, ran, more, someOf, readSome, over, fit-length}
+use Rattle.runs.specs.Runs.{runAt, ran, more, someOf, readSome, over, passedUp, fit-length}
 
 -- ---- a word at a place
 
@@ -74,12 +76,17 @@ pub record Reading (s : List ℕ) (at end : ℕ) (kinds out₀ out : List ℕ) (
   pub said : runAt s at end kinds ≡ onto (take i out) (runAt s p end (drop i kinds))
   pub some : readSome s at end kinds ≡ take i out ++ readSome s p end (drop i kinds)
 
-module _ (s : List ℕ) (at end : ℕ) (kinds out₀ : List ℕ) where
+-- what the loop answers: where the run ended or its refusal, and the numbers read so far in out
+pub record Answered (s : List ℕ) (at end : ℕ) (kinds out₀ out : List ℕ) (u : Run) : Type 0 where
+  pub said : u ≡ ran at (end - at) (runAt s at end kinds)
+  pub some : out ≡ over (readSome s at end kinds) out₀
+
+module _ {s : List ℕ} {at end : ℕ} {kinds out₀ : List ℕ} where
   pub start : Reading s at end kinds out₀ out₀ at 0
   start =
       record { upto = omega arith; taken = omega arith; behind = omega arith; long = refl; rest = refl; said = onto-nil (runAt s at end kinds); some = refl }
 
-  module _ (out : List ℕ) (p i : ℕ) (I : Reading s at end kinds out₀ out p i) (room : length kinds ≤ length out₀) where
+  module _ {out : List ℕ} {p i : ℕ} (I : Reading s at end kinds out₀ out p i) (room : length kinds ≤ length out₀) where
     over-out : (vs : List ℕ) → vs ≡ take i out → out ≡ over vs out₀
     over-out vs e =
         let t : i ≡ length (take i out) = sym (length-take-le i out (omega (arith, I .long, I .upto))) in
@@ -93,7 +100,8 @@ module _ (s : List ℕ) (at end : ℕ) (kinds out₀ : List ℕ) where
       bits = view s p (end - p)
 
       run-head : runAt s p end (drop i kinds)
-          ≡ andThen (unword (coding (getD kinds i 0)) (view s p (end - p))) (λ v r. andThen (readAll (map coding (drop (suc i) kinds)) r) (λ vs q. got (v ∷ vs) q))
+          ≡ andThen (unword (coding (getD kinds i 0)) (view s p (end - p)))
+          (λ v r. andThen (readAll (map coding (drop (suc i) kinds)) r) (λ vs q. got (v ∷ vs) q))
       unfolding runAt readAll
       run-head = ap (λ (l : List ℕ). readAll (map coding l) (view s p (end - p))) (drop-cons kinds i 0 h)
 
@@ -101,17 +109,16 @@ module _ (s : List ℕ) (at end : ℕ) (kinds out₀ : List ℕ) where
       unfolding readSome someOf
       some-head = ap (λ (l : List ℕ). someOf (map coding l) (view s p (end - p))) (drop-cons kinds i 0 h)
 
-      pub turn : (v next : ℕ) → At v next ≡ wordAt s p end (getD kinds i 0) → Reading s at end kinds out₀ (set out i v) next (i + 1)
+      pub turn : {w : Word} {v next : ℕ} → w ≡ At v next → w ≡ wordAt s p end (getD kinds i 0) → Reading s at end kinds out₀ (set out i v) next (i + 1)
       unfolding wordAt runAt readSome
-      turn v next e =
+      turn {v = v} {next = next} o e =
           let k = coding (getD kinds i 0) in
           let g = unword k (view s p (end - p)) in
-          let (r, ge, q) = placed-at p (end - p) g v next e in
+          let (r, ge, q) = placed-at p (end - p) g v next (sym o ∙ e) in
           let N = next-left k s p end v next r ge q in
           let cs = map coding (drop (suc i) kinds) in
-          let o : i < length out = omega (arith, I .long) in
           let front : take i out ++ (v ∷ []) ≡ take (i + 1) (set out i v) =
-          sym (take-suc-set out i v o) ∙ ap (λ (k : ℕ). take k (set out i v)) (sym (add-one i)) in
+          sym (take-suc-set out i v (omega (arith, I .long))) ∙ ap (λ (k : ℕ). take k (set out i v)) (sym (add-one i)) in
           record {
             upto = omega arith;
             taken = omega (arith, I .taken, I .behind, N .1);
@@ -132,19 +139,19 @@ module _ (s : List ℕ) (at end : ℕ) (kinds out₀ : List ℕ) where
                 ∙ ap₂ (λ (x y : List ℕ). x ++ y) front (ap₂ (λ (k : ℕ) (b : List Bool). someOf (map coding (drop k kinds)) b) (sym (add-one i)) (N .0));
           }
 
-      pub refuses : (x : Refusal) → No x ≡ wordAt s p end (getD kinds i 0)
-          → (run.No x ≡ ran at (end - at) (runAt s at end kinds)) × (out ≡ over (readSome s at end kinds) out₀)
+      pub refuses : {w : Word} {x : Refusal} {u : Run} → w ≡ No x → w ≡ wordAt s p end (getD kinds i 0) → u ≡ passedUp w
+          → Answered s at end kinds out₀ out u
       unfolding wordAt
-      refuses x e =
-          let ge = placed-no p (end - p) (unword (coding (getD kinds i 0)) (view s p (end - p))) x e in
+      refuses {x = x} o e q =
+          let ge = placed-no p (end - p) (unword (coding (getD kinds i 0)) (view s p (end - p))) x (sym o ∙ e) in
           let cs = map coding (drop (suc i) kinds) in
           let R : runAt s at end kinds ≡ no x =
           I .said ∙ ap (onto (take i out)) (run-head ∙ ap (λ (g : Answer ℕ). andThen g (λ v r. andThen (readAll cs r) (λ vs q. got (v ∷ vs) q))) ge) in
           let S : readSome s at end kinds ≡ take i out =
           I .some ∙ ap (λ (l : List ℕ). take i out ++ l) (some-head ∙ ap (λ (g : Answer ℕ). more g (someOf cs)) ge) ∙ append-nil (take i out) in
-          (ap (ran at (end - at)) (sym R), over-out (readSome s at end kinds) S)
+          record { said = q ∙ ap passedUp o ∙ ap (ran at (end - at)) (sym R); some = over-out (readSome s at end kinds) S }
 
-    pub finished : length kinds ≤ i → (run.Done p ≡ ran at (end - at) (runAt s at end kinds)) × (out ≡ over (readSome s at end kinds) out₀)
+    pub finished : length kinds ≤ i → Answered s at end kinds out₀ out (run.Done p)
     unfolding runAt readSome readAll someOf
     finished h =
         let b = view s p (end - p) in
@@ -155,7 +162,7 @@ module _ (s : List ℕ) (at end : ℕ) (kinds out₀ : List ℕ) where
         let S : readSome s at end kinds ≡ take i out =
         I .some ∙ ap (λ (l : List ℕ). take i out ++ someOf (map coding l) b) (drop-of-length-le kinds h) ∙ append-nil (take i out) in
         let q : p ≡ at + (end - at - length b) = omega (arith, length-view s p (end - p), I .taken, I .behind) in
-        (ap run.Done q ∙ ap (ran at (end - at)) (sym R), over-out (readSome s at end kinds) S)
+        record { said = ap run.Done q ∙ ap (ran at (end - at)) (sym R); some = over-out (readSome s at end kinds) S }
 
 -- a run that is not refused gives all its numbers
 some-got : (cs : List Coding) (b : List Bool) (vs : List ℕ) (r : List Bool) → readAll cs b ≡ got vs r → someOf cs b ≡ vs
@@ -170,7 +177,8 @@ some-got (c ∷ cs) b vs r e =
 module _ (s : List ℕ) (at end : ℕ) (kinds out : List ℕ) where
   -- a run to the next place p: its numbers are laid over the slice, and what is left stands from p on
   done-of : (p : ℕ) (g : Answer (List ℕ)) → runAt s at end kinds ≡ g → run.Done p ≡ ran at (end - at) g
-      → (vs : List ℕ) × (g ≡ got vs (view s p (end - p))) × (length vs ≡ length kinds) × (readSome s at end kinds ≡ vs) × (p - at + (end - p) ≡ end - at) × (at ≤ p)
+      → (vs : List ℕ) × (g ≡ got vs (view s p (end - p))) × (length vs ≡ length kinds) × (readSome s at end kinds ≡ vs) × (p - at + (end - p) ≡ end - at)
+      × (at ≤ p)
   unfolding runAt readSome
   done-of p (got vs r) e d =
       let w = written-read (map coding kinds) (view s at (end - at)) vs r e in
@@ -181,7 +189,8 @@ module _ (s : List ℕ) (at end : ℕ) (kinds out : List ℕ) where
       let k : end - at - length b ≡ end - p = omega arith in (
         vs,
         ap (got vs)
-            (sym (drop-append-seam b r) ∙ ap (drop (length b)) (sym (w .0)) ∙ drop-view s at (length b) (end - at) (omega arith) ∙ ap₂ (λ (x y : ℕ). view s x y) n k),
+            (sym (drop-append-seam b r) ∙ ap (drop (length b)) (sym (w .0)) ∙ drop-view s at (length b) (end - at) (omega arith)
+            ∙ ap₂ (λ (x y : ℕ). view s x y) n k),
         fit-length (map coding kinds) vs (w .1) ∙ length-map kinds coding,
         some-got (map coding kinds) (view s at (end - at)) vs r e,
         omega arith,
@@ -190,7 +199,8 @@ module _ (s : List ℕ) (at end : ℕ) (kinds out : List ℕ) where
   done-of p (no x) e d = absurd (let z : _≡_ {A = ℕ} 0 1 = cc in omega arith)
 
   pub run-done : (p : ℕ) → run.Done p ≡ ran at (end - at) (runAt s at end kinds)
-      → (vs : List ℕ) × (runAt s at end kinds ≡ got vs (view s p (end - p))) × (length vs ≡ length kinds) × (readSome s at end kinds ≡ vs) × (p - at + (end - p) ≡ end - at) × (at ≤ p)
+      → (vs : List ℕ) × (runAt s at end kinds ≡ got vs (view s p (end - p))) × (length vs ≡ length kinds) × (readSome s at end kinds ≡ vs)
+      × (p - at + (end - p) ≡ end - at) × (at ≤ p)
   run-done p d = done-of p (runAt s at end kinds) refl d
 
   -- a run into a slice of its own length fills it
@@ -198,7 +208,8 @@ module _ (s : List ℕ) (at end : ℕ) (kinds out : List ℕ) where
       → now ≡ over (readSome s at end kinds) out → (runAt s at end kinds ≡ got now (view s p (end - p))) × (p - at + (end - p) ≡ end - at) × (at ≤ p)
   run-filled p now l d f =
       let (vs, e, n, q, t, b) = run-done p d in
-      let all : now ≡ vs = f ∙ ap (λ (x : List ℕ). over x out) q ∙ ap (λ (x : List ℕ). vs ++ x) (drop-of-length-le out {i = length vs} (omega arith)) ∙ append-nil vs in
+      let all : now ≡ vs = f ∙ ap (λ (x : List ℕ). over x out) q ∙ ap (λ (x : List ℕ). vs ++ x) (drop-of-length-le out {i = length vs} (omega arith))
+      ∙ append-nil vs in
       (e ∙ ap (λ (x : List ℕ). got x (view s p (end - p))) (sym all), t, b)
 
 pub run-not : (at left : ℕ) (g : Answer (List ℕ)) (x : Refusal) → run.No x ≡ ran at left g → g ≡ no x

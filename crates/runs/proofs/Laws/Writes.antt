@@ -18,6 +18,10 @@ use Rattle.words.proofs.Laws.Spell.{word-few}
 abbrev pub runBits : List ℕ → List ℕ → List Bool
 runBits kinds numbers = writeAll (map coding kinds) numbers
 
+-- a word has at most 16 bits
+pub word-short : (k v m : ℕ) → m ≡ length (wordOf (coding k) v) → m ≤ 16
+word-short k v m e = omega (arith, word-few k v)
+
 -- the first i words are laid, n bits in all
 pub record Writing (s₀ : List ℕ) (at : ℕ) (kinds numbers s : List ℕ) (n i : ℕ) : Type 0 where
   pub bits : List Bool
@@ -28,16 +32,16 @@ pub record Writing (s₀ : List ℕ) (at : ℕ) (kinds numbers s : List ℕ) (n 
   pub written : s ≡ laid s₀ at bits
   pub many : n ≡ length bits
 
-module _ (s₀ : List ℕ) (at : ℕ) (kinds numbers : List ℕ) where
+module _ {s₀ : List ℕ} {at : ℕ} {kinds numbers : List ℕ} where
   pub start : Bytes s₀ → Writing s₀ at kinds numbers s₀ 0 0
   start h = record { bits = []; upto = omega arith; few = omega arith; said = refl; long = refl; written = sym (laid-none s₀ at h); many = refl }
 
-  module _ (s : List ℕ) (n i : ℕ) (I : Writing s₀ at kinds numbers s n i) where
-    pub turn : (t : List ℕ) (m : ℕ) → i < length kinds → length kinds ≡ length numbers → m ≤ 16
+  module _ {s : List ℕ} {n i : ℕ} (I : Writing s₀ at kinds numbers s n i) where
+    pub turn : {t : List ℕ} {m : ℕ} → i < length kinds → length kinds ≡ length numbers
         → m ≡ length (wordOf (coding (getD kinds i 0)) (getD numbers i 0)) → t ≡ laid s (at + n) (wordOf (coding (getD kinds i 0)) (getD numbers i 0))
         → Writing s₀ at kinds numbers t (n + m) (i + 1)
     unfolding writeAll
-    turn t m h l few e x =
+    turn h l e x =
         let w = wordOf (coding (getD kinds i 0)) (getD numbers i 0) in
         let b = I .bits in
         let next : runBits (drop i kinds) (drop i numbers) ≡ w ++ runBits (drop (suc i) kinds) (drop (suc i) numbers) =
@@ -45,7 +49,7 @@ module _ (s₀ : List ℕ) (at : ℕ) (kinds numbers : List ℕ) where
         record {
           bits = b ++ w;
           upto = omega arith;
-          few = omega (arith, I .few);
+          few = omega (arith, I .few, word-short _ _ _ e);
           said =
               I .said ∙ ap (λ (x : List Bool). b ++ x) next ∙ sym (append-assoc b w (runBits (drop (suc i) kinds) (drop (suc i) numbers)))
               ∙ ap (λ (k : ℕ). b ++ w ++ runBits (drop k kinds) (drop k numbers)) (sym (add-one i));
@@ -69,21 +73,21 @@ pub record Counting (kinds numbers : List ℕ) (n i : ℕ) : Type 0 where
   pub few : n ≤ 16 * i
   pub said : length (runBits kinds numbers) ≡ n + length (runBits (drop i kinds) (drop i numbers))
 
-module _ (kinds numbers : List ℕ) where
+module _ {kinds numbers : List ℕ} where
   pub count-start : Counting kinds numbers 0 0
   count-start = record { upto = omega arith; few = omega arith; said = omega arith }
 
-  module _ (n i : ℕ) (I : Counting kinds numbers n i) where
-    pub count-turn : (m : ℕ) → i < length kinds → length kinds ≡ length numbers → m ≤ 16
+  module _ {n i : ℕ} (I : Counting kinds numbers n i) where
+    pub count-turn : {m : ℕ} → i < length kinds → length kinds ≡ length numbers
         → m ≡ length (wordOf (coding (getD kinds i 0)) (getD numbers i 0)) → Counting kinds numbers (n + m) (i + 1)
     unfolding writeAll
-    count-turn m h l few e =
+    count-turn h l e =
         let w = wordOf (coding (getD kinds i 0)) (getD numbers i 0) in
         let r = runBits (drop (suc i) kinds) (drop (suc i) numbers) in
         let next : runBits (drop i kinds) (drop i numbers) ≡ w ++ r = ap₂ runBits (drop-cons kinds i 0 h) (drop-cons numbers i 0 (omega arith)) in
         record {
           upto = omega arith;
-          few = omega (arith, I .few);
+          few = omega (arith, I .few, word-short _ _ _ e);
           said =
               omega (arith, I .said, ap length next, length-append w r, ap (λ (k : ℕ). length (runBits (drop k kinds) (drop k numbers))) (add-one i));
         }

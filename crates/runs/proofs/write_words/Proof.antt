@@ -1,5 +1,4 @@
--- `words::runs::write_words` meets its contract: the words that are lent are all of them. Assumes nothing.
-use mathlib.Core.Path.{refl}
+-- `runs::write_words` meets its contract: the words that are lent are all of them. Assumes nothing.
 use Rattle.words.specs.Spell.{spellTable}
 use borrow.Author.Needs.{needs}
 use Rattle.runs.proofs.write_words.Statement.{statement}
@@ -7,13 +6,7 @@ use Rattle.runs.proofs.write_words.Tie as tie
 
 write-run-requires : tie.Need-write-run-requires
 unfolding spellTable
-write-run-requires c κs = (refl, c .before .before .before .before .before .pre .0, c .before .before .before .before .before .pre .1)
-
-same-length : tie.Need-same-length
-same-length c = search needs
-
-returns : tie.Need-returns
-returns c = c .before .before .write-run .ensures
+write-run-requires c κs = search needs
 
 pub write-words-spec : {M : Type 1} → statement M
-write-words-spec = tie.close (tie.spec write-run-requires same-length returns)
+write-words-spec = tie.close (tie.spec write-run-requires (λ c. search needs) (λ c. search needs))

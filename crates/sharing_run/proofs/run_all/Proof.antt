@@ -13,53 +13,20 @@ Inv-loop text at₀ at = at ≤ length text
 abbrev μ-loop : tie.MeasureT-loop
 μ-loop text at₀ at = length text - at
 
-loop-holds : tie.Need-loop-holds Inv-loop μ-loop
-loop-holds c = search needs
-
-sub-loop : tie.Need-sub-loop Inv-loop μ-loop
-sub-loop c = search needs
-
-add-run : tie.Need-add-run Inv-loop μ-loop
-add-run c = search needs
-
-sub-run : tie.Need-sub-run Inv-loop μ-loop
-sub-run c = search needs
-
-part-run-start : tie.Need-part-run-start Inv-loop μ-loop
-part-run-start c = search needs
-
-part-run-end : tie.Need-part-run-end Inv-loop μ-loop
-part-run-end c = search needs
-
-run-requires : tie.Need-run-requires Inv-loop μ-loop
-run-requires c κs = simp (length-take, length-drop) (omega arith)
-
-add-at : tie.Need-add-at Inv-loop μ-loop
-add-at c = search needs
-
-loop-less : tie.Need-loop-less Inv-loop μ-loop
-loop-less c = search needs
-
-loop-again : tie.Need-loop-again Inv-loop μ-loop
-loop-again c = search needs
-
-returns : tie.Need-returns Inv-loop μ-loop
-returns c = search needs
-
 pub run-all-spec : {M : Type 1} → statement M
 run-all-spec =
     tie.close
     (tie.spec
     Inv-loop
     μ-loop
-    loop-holds
-    sub-loop
-    add-run
-    sub-run
-    part-run-start
-    part-run-end
-    run-requires
-    add-at
-    loop-less
-    loop-again
-    returns)
+    (λ c. search needs)
+    (λ c. search needs)
+    (λ c. search needs)
+    (λ c. search needs)
+    (λ c. search needs)
+    (λ c. search needs)
+    (λ c κs. simp (length-take, length-drop) (omega arith))
+    (λ c. search needs)
+    (λ c. search needs)
+    (λ c. search needs)
+    (λ c. search needs))

@@ -3,13 +3,14 @@
 use mathlib.Core.Path.{_≡_, refl, sym, ap, ap₂, _∙_}
 use mathlib.Core.Bool.{Bool, false, true, _&&_}
 use mathlib.Core.List.{List, _∷_, _++_, []}
-use Prim.Native.Nat.{ℕ, zero, suc, _+_, _-_, _*_, _≤_, _<_, min}
+use Prim.Native.Nat.{ℕ, zero, suc, _+_, _-_, _*_, _/_, _≤_, _<_, min}
 use native.Mathlib.Nat.{add-zero, zero-add}
 use native.Mathlib.Omega.{arith}
-use lib.ListN.{length, replicate}
-use Rattle.ground.specs.Fills.{from}
+use lib.ListN.{length, replicate, drop, set}
+use Rattle.ground.specs.Fills.{from, table}
+use Rattle.ground.proofs.Laws.Runs.{Fronted, fronted-none, fronted-more}
 use Rattle.bits.specs.Bits.{view, val, bytesOf, word, laid, Bytes}
-use Rattle.bits.proofs.Laws.Views.{length-view, view-add, take-view, drop-view, view-past}
+use Rattle.bits.proofs.Laws.Views.{length-view, view-add, view-lt, take-view, drop-view, view-past}
 use Rattle.bits.specs.Numbers.{word-val}
 use Rattle.bits.proofs.Laws.Laid.{laid-append, laid-none, length-laid}
 use Rattle.tails.specs.Tails.{tailBytes, tailFrom, clear}
@@ -38,6 +39,33 @@ tail-made s q h l =
     ∙ ap (bytesOf 320) (ap (λ (x : ℕ). view s x 2560) (add-zero q) ∙ ap (view s q) e ∙ view-add s q m (2560 - m)
     ∙ ap (λ (x : List Bool). view s q m ++ x) (ap (λ (x : ℕ). view s x (2560 - m)) n ∙ view-past s end (2560 - m) (omega arith))
     ∙ ap (λ (k : ℕ). view s q m ++ replicate (2560 - k) false) (sym (length-view s q m)))
+
+-- one byte: 0 past the end, and small
+pub byte-past : (s : List ℕ) (p : ℕ) → length s ≤ p / 8 → 0 ≡ val (view s p 8)
+unfolding val
+byte-past s p h = sym (ap val (view-past s p 8 (omega arith)))
+
+pub byte-small : (s : List ℕ) (p z : ℕ) → z ≡ val (view s p 8) → z < 256
+byte-small s p z e = rw e (view-lt s p 8)
+
+-- the loop that fills: the first i bytes stand in t
+pub record Filling (s : List ℕ) (at : ℕ) (t₀ t : List ℕ) (i : ℕ) : Type 0 where
+  pub upto : i ≤ 320
+  pub front : Fronted (λ j. val (view s (at + j * 8) 8)) t₀ t i
+
+module _ {s : List ℕ} {at : ℕ} {t₀ : List ℕ} where
+  pub fill-start : Filling s at t₀ t₀ 0
+  fill-start = record { upto = omega arith; front = fronted-none }
+
+  module _ {t : List ℕ} {i : ℕ} (I : Filling s at t₀ t i) where
+    pub fill-turn : {v : ℕ} → i < 320 → 320 ≤ length t₀ → v ≡ val (view s (at + i * 8) 8) → Filling s at t₀ (set t i v) (i + 1)
+    fill-turn h l e = record { upto = omega arith; front = fronted-more (I .front) (omega arith) e }
+
+    pub fill-end : 320 ≤ i → t ≡ tailFrom s at ++ drop 320 t₀
+    unfolding tailFrom
+    fill-end h =
+        let e : i ≡ 320 = omega (arith, I .upto) in
+        I .front .same ∙ ap (λ (k : ℕ). table k (λ (j : ℕ). val (view s (at + j * 8) 8)) ++ drop k t₀) e
 
 -- ---- clear
 
@@ -71,10 +99,15 @@ pub record Clearing (s : List ℕ) (at end p : ℕ) : Type 0 where
   pub behind : at ≤ p
   pub said : clear (view s at (end - at)) ≡ clear (view s p (end - p))
 
+-- a step of some bits comes nearer to the end
+pub step-less : (n j k : ℕ) → (0 < n - j → 0 < k) → j < n → n - (j + k) < n - j
+step-less n j k some h = let z = some (omega arith) in omega arith
+
 pub clear-start : (s : List ℕ) (at end : ℕ) → Clearing s at end at
 clear-start s at end = record { behind = omega arith; said = refl }
 
-module _ (s : List ℕ) (at end p : ℕ) (I : Clearing s at end p) (n v : ℕ) (few : n ≤ 16) (some : n ≤ end - p) (h : p < end) (e : v ≡ val (view s p (min n 16))) where
+module _ (s : List ℕ) (at end p : ℕ) (I : Clearing s at end p) (n v : ℕ) (few : n ≤ 16) (some : n ≤ end - p) (h : p < end)
+    (e : v ≡ val (view s p (min n 16))) where
   value : v ≡ val (view s p n)
   value = let m : min n 16 ≡ n = omega arith in e ∙ ap (λ (k : ℕ). val (view s p k)) m
 
@@ -100,13 +133,13 @@ pub record Copying (s : List ℕ) (n : ℕ) (out₀ : List ℕ) (at : ℕ) (out 
   pub long : length out ≡ length out₀
   pub same : out ≡ laid out₀ at (view s 0 j)
 
-pub copy-start : (s : List ℕ) (n : ℕ) (out₀ : List ℕ) (at : ℕ) → Bytes out₀ → Copying s n out₀ at out₀ 0
+pub copy-start : {s : List ℕ} {n : ℕ} {out₀ : List ℕ} {at : ℕ} → Bytes out₀ → Copying s n out₀ at out₀ 0
 unfolding view
-copy-start s n out₀ at b = record { upto = omega arith; long = refl; same = sym (laid-none out₀ at b) }
+copy-start {s} {n} {out₀} {at} b = record { upto = omega arith; long = refl; same = sym (laid-none out₀ at b) }
 
-pub copy-turn : (s : List ℕ) (n : ℕ) (out₀ : List ℕ) (at : ℕ) (out : List ℕ) (j : ℕ) → Copying s n out₀ at out j → (k v : ℕ) (t : List ℕ) → k ≤ 16 → k ≤ n - j → j < n
-    → v ≡ val (view s j (min k 16)) → t ≡ laid out (at + j) (word (min k 16) v) → Copying s n out₀ at t (j + k)
-copy-turn s n out₀ at out j I k v t few some h e x =
+pub copy-turn : {s : List ℕ} {n : ℕ} {out₀ : List ℕ} {at : ℕ} {out : List ℕ} {j k v : ℕ} {t : List ℕ} → t ≡ laid out (at + j) (word (min k 16) v)
+    → v ≡ val (view s j (min k 16)) → Copying s n out₀ at out j → (k ≤ 16) × (k ≤ n - j) × (0 < n - j → 0 < k) → Copying s n out₀ at t (j + k)
+copy-turn {s} {n} {out₀} {at} {out} {j} {k} {v} {t} x e I (few, some, z) =
     let m : min k 16 ≡ k = omega arith in
     let w : word (min k 16) v ≡ view s j k =
     ap₂ word m (e ∙ ap (λ (i : ℕ). val (view s j i)) m) ∙ (rw length-view at (word-val (view s j k))) in
@@ -116,7 +149,8 @@ copy-turn s n out₀ at out j I k v t few some h e x =
       upto = omega arith;
       long = ap length x ∙ length-laid out (at + j) (word (min k 16) v) ∙ I .long;
       same =
-          x ∙ ap (laid out (at + j)) w ∙ ap₂ (λ (y : List ℕ) (i : ℕ). laid y i (view s j k)) (I .same) q ∙ laid-append out₀ at (view s 0 j) (view s j k) ∙ ap (laid out₀ at) r;
+          x ∙ ap (laid out (at + j)) w ∙ ap₂ (λ (y : List ℕ) (i : ℕ). laid y i (view s j k)) (I .same) q ∙ laid-append out₀ at (view s 0 j) (view s j k)
+          ∙ ap (laid out₀ at) r;
     }
 
 pub copy-end : (s : List ℕ) (n : ℕ) (out₀ : List ℕ) (at : ℕ) (out : List ℕ) (j : ℕ) → Copying s n out₀ at out j → n ≤ j → out ≡ laid out₀ at (view s 0 n)

@@ -13,6 +13,8 @@ use lib.Signed.{ltZ, shrZ}
 use Rattle.ground.specs.Cases.{by-bool, and-T}
 use Rattle.ground.specs.Fills.{table, getD-table}
 use Rattle.ground.proofs.Laws.Fills.{table-same}
+use Rattle.ground.specs.Indices.{inRange}
+use Rattle.ground.proofs.Laws.Indices.{range-at}
 use Rattle.ground.specs.Order.{maxZ, minZ}
 use Rattle.ground.proofs.Laws.Order.{is-lt, is-max, is-min, is-scale, is-div}
 use Rattle.ground.specs.Sums.{nth, sumTo}
@@ -20,9 +22,10 @@ use Rattle.ground.proofs.Laws.Sums.{sum-nil, sum-front}
 use Rattle.ground.specs.Tables.{every-at}
 use Rattle.ground.specs.Whole.{Is}
 use Rattle.ground.proofs.Laws.Whole.{is-pos, is-unique, is-same, is-add, is-sub}
-use Rattle.weights.specs.Table17.{table17, rowAt, bandsOf, heightOf, liftOf, floorOf}
+use Rattle.weights.specs.Table17.{table17, rowAt, bandsOf, heightOf, liftOf, floorOf, rowOf}
 use Rattle.weights.specs.Inner.{loud, quarter, quarters, row, up, down, excess, most, least, scaled, raisedRows}
-use Rattle.weights.specs.Weights.{nthZ, loudness, louds, sumOver, spe, spes, score, bspe, forward, backward, renormed, largest, smallest, mapped, rowWeights}
+use Rattle.weights.specs.Weights.{nthZ, loudness, louds, sumOver, spe, spes, score, bspe, forward, backward, renormed, largest, smallest, mapped}
+use Rattle.weights.specs.Weights.{rowWeights, spread, weightsOf}
 use Rattle.weights.proofs.Laws.Printed.{firsts, first-is, first-in, part-is, part-times}
 use Rattle.weights.proofs.Laws.Stages.{most-ge}
 
@@ -88,7 +91,8 @@ spe-is true norms low p h =
     let q = 4 * (p / 4) in
     let l = louds-is norms low in
     is-same _ _
-    (is-scale 180 (is-add (l q (omega arith)) (is-add (l (q + 1) (omega arith)) (is-add (l (q + 2) (omega arith)) (is-add (l (q + 3) (omega arith)) (is-pos 0))))))
+    (is-scale 180 (is-add (l q (omega arith))
+    (is-add (l (q + 1) (omega arith)) (is-add (l (q + 2) (omega arith)) (is-add (l (q + 3) (omega arith)) (is-pos 0))))))
     (omega arith)
 spe-is false norms low p h = is-same _ _ (is-scale 720 (louds-is norms low p h)) (omega arith)
 
@@ -99,7 +103,8 @@ module _ (transient : Bool) (norms : List ℕ) (low : (k : ℕ) → k < 44 → n
       rw (getD-table (spe transient (louds norms)) 44 (pos 0) p h, getD-table (quarter transient norms) 44 0 p h) (spe-is transient norms low p h)
 
   -- ---- (24)
-  run-is : (n p : ℕ) → p + n ≤ 44 → Is (sumOver (nthZ (spes transient norms)) (run p n)) (180 * sumTo (λ i. nth (quarters transient norms) (p + i)) n) (3600 * n)
+  run-is : (n p : ℕ) → p + n ≤ 44
+      → Is (sumOver (nthZ (spes transient norms)) (run p n)) (180 * sumTo (λ i. nth (quarters transient norms) (p + i)) n) (3600 * n)
   unfolding sumOver run
   run-is zero p h = is-same _ _ (is-pos 0) (omega (arith, sum-nil (λ i. nth (quarters transient norms) (p + i))))
   run-is (suc n) p h =
@@ -116,7 +121,8 @@ module _ (transient : Bool) (norms : List ℕ) (low : (k : ℕ) → k < 44 → n
     sum-is : Is (sumOver (nthZ (spes transient norms)) (bandsOf b)) (180 * rowSum) (3600 * heightOf b)
     unfolding rowSum
     sum-is =
-        subst⁻¹ (λ (j : List ℕ). Is (sumOver (nthZ (spes transient norms)) j) (180 * sumTo (λ i. nth (quarters transient norms) (nth (bandsOf b) 0 + i)) (heightOf b)) (3600 * heightOf b))
+        subst⁻¹ (λ (j : List ℕ). Is (sumOver (nthZ (spes transient norms)) j)
+        (180 * sumTo (λ i. nth (quarters transient norms) (nth (bandsOf b) 0 + i)) (heightOf b)) (3600 * heightOf b))
         (bands-run b h) (run-is (heightOf b) (nth (bandsOf b) 0) (bands-in b h))
 
     whole : 180 * rowSum ≡ heightOf b * (180 / heightOf b * rowSum)
@@ -227,7 +233,15 @@ rows-same transient norms low =
     λ k h. rw (getD-table (renormed z26) 20 (pos 0) k h, getD-table (excess n26) 20 0 k h) (excess-is z26 n26 e26 k h) in
     table-same _ _ 20 0 (λ b l h. sym (mapped-is z27 ds e27 b h))
 
+pub weights-made : (transient : Bool) (norms : List ℕ) {rows ws r : List ℕ} → inRange norms 44 ≡ true → rows ≡ raisedRows transient norms
+    → ws ≡ table 44 (λ p. nth rows (rowOf p)) → r ≡ table 44 (spread transient ws) → r ≡ weightsOf transient norms
+unfolding weightsOf
+weights-made transient norms t er ew es = rw (es, ew, er, rows-same transient norms (range-at norms 44 t))
+
 -- (31): the score raised by 368
 pub score-is : (index w : ℕ) → index ≤ 39 → Is (score index w) (912 - 16 * index + w) 368
 unfolding score
 score-is index w h = is-same _ _ (is-add (is-scale 16 (loud-is index h)) (is-pos w)) (omega arith)
+
+pub score-made : (index w : ℕ) {z : ℤ} {i v : ℕ} → index ≤ 39 → i ≡ index → v ≡ w → Is z (912 - 16 * i + v) 368 → z ≡ score index w
+score-made index w h ei ev s = is-unique s (is-same _ _ (score-is index w h) (omega arith))

@@ -1,13 +1,21 @@
 -- The code's tables go with Table 17 as printed: each column by one computed test over its rows.
 -- Assumes nothing.
-use mathlib.Core.Path.{_≡_}
+use mathlib.Core.Path.{_≡_, ap}
 use mathlib.Core.List.{List, [], _∷_}
 use Prim.Native.Nat.{ℕ, _+_, _*_, _/_, _<_, _≤_}
+use native.Mathlib.Nat.{mul-le-mul-left, mul-left-comm}
+use native.Mathlib.Omega.{arith}
 use lib.Dec.{T, leb, ltb, eqb, leb→le, ltb→lt, eqb→eq}
 use lib.ListN.{length}
 use Rattle.ground.specs.Sums.{nth}
 use Rattle.ground.specs.Tables.{every, every-at}
 use Rattle.weights.specs.Table17.{table17, rowAt, bandsOf, heightOf, liftOf, floorOf, has, seek, rowOf}
+
+-- a part of 180 and a sum of n numbers up to 156
+part-le : (part n sum : ℕ) → part * n ≡ 180 → sum ≤ 156 * n → part * sum ≤ 28080
+part-le part n sum e h =
+    let k : part * sum ≤ part * (156 * n) = mul-le-mul-left part h in
+    omega (arith, mul-left-comm part 156 n)
 
 -- the column l has f b in row b
 column : (f : ℕ → ℕ) (l : List ℕ) → T (every (λ b x. eqb x (f b)) 0 l) → (b : ℕ) → b < length l → nth l b ≡ f b
@@ -61,15 +69,22 @@ module _ (b : ℕ) (h : b < 20) where
   unfolding table17 rowAt
   part-times = eqb→eq _ _ (every-at (λ b x. eqb (x * heightOf b) 180) parts 0 tt b h)
 
-  pub part-all : nth parts b * nth heights b ≡ 180
+  part-all : nth parts b * nth heights b ≡ 180
   part-all = rw height-is part-times
 
   pub lift-is : nth lifts b ≡ 720 * liftOf b
   unfolding table17 rowAt
   lift-is = column (λ b. 720 * liftOf b) lifts tt b h
 
-  pub lift-le : nth lifts b ≤ 5760
+  lift-le : nth lifts b ≤ 5760
   lift-le = column-le (λ b x. x) 5760 lifts tt b h
+
+  module _ (sum : ℕ) (l : sum ≤ 156 * nth heights b) where
+    pub part-fits : nth parts b * sum < 65536
+    part-fits = omega (arith, part-le (nth parts b) (nth heights b) sum part-all l)
+
+    pub row-fits : nth parts b * sum + nth lifts b < 65536
+    row-fits = omega (arith, part-le (nth parts b) (nth heights b) sum part-all l, lift-le)
 
   pub floor-is : nth floors b ≡ 720 * (floorOf b + 5)
   unfolding table17 rowAt
@@ -82,3 +97,6 @@ module _ (p : ℕ) (h : p < 44) where
 
   pub row-in : nth places p < 20
   row-in = ltb→lt _ _ (every-at (λ p x. ltb x 20) places 0 tt p h)
+
+  pub row-taken : (rows : List ℕ) → nth rows (nth places p) ≡ nth rows (rowOf p)
+  row-taken rows = ap (nth rows) row-is

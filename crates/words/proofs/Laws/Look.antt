@@ -1,10 +1,10 @@
 -- Laws of specs/Look.
 -- Assumes nothing.
-use mathlib.Core.Path.{_≡_, refl, sym, ap, _∙_}
+use mathlib.Core.Path.{_≡_, refl, sym, ap, subst, _∙_}
 use mathlib.Core.Bool.{Bool, true, false, _&&_}
 use mathlib.Core.List.{List, [], _∷_, _++_, append-nil}
 use Prim.Native.Nat.{ℕ, _+_, _-_, _*_, _/_, _%_, _≤_, _<_}
-use native.Mathlib.Nat.{zero-add}
+use native.Mathlib.Nat.{zero-add, le-refl}
 use native.Mathlib.Omega.{arith}
 use lib.Dec.{T, ltb, ltb→lt}
 use lib.ListN.{length, getD, take}
@@ -18,6 +18,8 @@ use Rattle.bits.specs.Codings.{got, no, unword, find, find-word}
 use Rattle.bits.proofs.Laws.Codings.{find-cut, found-fine, found-refused, found-cut}
 use Rattle.bits.specs.declared.Refusal.the-variants.{Missing, Past}
 use Rattle.words.specs.Tables.{words, refused, lacking, column, columnOf, table16, table20, free-words}
+use Rattle.words.specs.declared.Word.the-variants.{At, No}
+use Rattle.words.specs.Answers.{placed}
 use Rattle.words.specs.Inner.{same, begins, right}
 use Rattle.words.specs.Look.{lookTable}
 
@@ -104,3 +106,30 @@ module _ (s : List ℕ) (p c e : ℕ) (t : T (right (c * 128 + val (view s p 7))
 pub look-right : (k : ℕ) → k < 640 → T (right k (getD lookTable k 0))
 unfolding lookTable right begins words refused lacking columnOf table16 table20 word
 look-right k h = every-at right lookTable 0 tt k h
+
+pub look-entry : {k e : ℕ} (table : List ℕ) → table ≡ lookTable → k < 640 → e ≡ getD table k 0 → T (right k e)
+look-entry {k} table q h e = subst (λ (x : ℕ). T (right k x)) (sym (e ∙ ap (λ (l : List ℕ). getD l k 0) q)) (look-right k h)
+
+-- ---- what the code answers by the entry e, at the seven bits that it read
+
+module _ (s : List ℕ) (p m c e : ℕ) {z : ℕ} (q : z ≡ val (view s p 7)) (t : T (right (c * 128 + z) e)) where
+  told : T (right (c * 128 + val (view s p 7)) e)
+  told = rw q at t
+
+  pub column-lacking-cut : e ≡ 0 → m < 7 → No Past ≡ placed p m (unword (column c) (view s p m))
+  column-lacking-cut h l = rw (begins-cut s p m c _ 7 (omega arith) (entry-lacking s p c e told h) l)
+
+  pub column-lacking : e ≡ 0 → 7 ≤ m → No Missing ≡ placed p m (unword (column c) (view s p m))
+  column-lacking h l = rw (begins-refused s p m c _ 7 (omega arith) (entry-lacking s p c e told h) l (le-refl _))
+
+  pub column-cut : (e ≡ 0 → ⊥) → m < e % 8 → No Past ≡ placed p m (unword (column c) (view s p m))
+  column-cut h l = rw (begins-cut s p m c (e / 8) (e % 8) (omega arith) (entry-word s p c e told h) l)
+
+  pub column-fine : (e ≡ 0 → ⊥) → e % 8 ≤ m → At (e / 8) (p + e % 8) ≡ placed p m (unword (column c) (view s p m))
+  column-fine h l =
+      let next : p + e % 8 ≡ p + (m - (m - e % 8)) = omega arith in
+      rw (
+        begins-fine s p m c (e / 8) (e % 8) (omega arith) (entry-word s p c e told h) l (entry-lt s p c e told h),
+        length-view s (p + e % 8) (m - e % 8),
+      )
+      (ap (At (e / 8)) next)

@@ -1,17 +1,20 @@
 -- Laws of specs/Spell.
 -- Assumes nothing.
 use mathlib.Core.Path.{_≡_, refl, sym, ap, ap₂, _∙_}
-use mathlib.Core.Bool.{Bool}
+use mathlib.Core.Bool.{Bool, _&&_}
 use mathlib.Core.List.{List, [], _∷_}
-use Prim.Native.Nat.{ℕ, zero, suc, _+_, _-_, _/_, _%_, _^_, _≤_, _<_}
+use Prim.Native.Nat.{ℕ, zero, suc, _+_, _-_, _*_, _/_, _%_, _^_, _≤_, _<_, min}
+use native.Mathlib.Numerals.{add-one}
 use native.Mathlib.Omega.{arith}
-use lib.Dec.{T, eqb, eqb→eq, ltb, ltb→lt}
+use lib.Dec.{T, eqb, eqb→eq, ltb, ltb→lt, leb, leb→le}
 use lib.ListN.{length, getD, take, drop, length-take, length-drop, List·getD-eq-default}
 use lib.Seq.{getD-take, getD-drop}
 use Rattle.ground.specs.Tables.{every, every-at}
-use Rattle.bits.specs.Bits.{word, val}
+use Rattle.bits.specs.Bits.{word, val, laid, Bytes}
 use Rattle.bits.specs.Numbers.{word-val, length-word}
-use Rattle.ground.specs.Cases.{by-bool}
+use Rattle.bits.proofs.Laws.Laid.{laid-none}
+use Rattle.bits.proofs.Laws.Numbers.{shifted-one}
+use Rattle.ground.specs.Cases.{by-bool, and-T}
 use borrow.Author.Tests.{ltb-true, ltb-false}
 use Rattle.bits.specs.Codings.{Coding, wordOf, fit}
 use Rattle.words.specs.Tables.{words, column, coding, columnOf, table16, table20}
@@ -60,28 +63,30 @@ word-column c v = refl
 
 -- ---- what the code finds for a number x of a kind, both as they stand in its wider locals
 
-module _ (kind v k x : ℕ) (q : k ≡ kind) (y : x ≡ v) where
+module _ (kind v : ℕ) {k x : ℕ} (q : k ≡ kind) (y : x ≡ v) where
   pub spelt-fixed : k < 16 → word k x ≡ wordOf (coding kind) v
   unfolding wordOf
   spelt-fixed h = ap (word k) y ∙ sym (ap (λ (c : ℕ). wordOf (coding c) v) (sym q) ∙ ap (λ (c : Coding). wordOf c v) (coding-fixed k h))
 
-  pub fit-fixed : k < 16 → ltb x (2 ^ k) ≡ fit (coding kind) v
-  fit-fixed h = ap (λ (z : ℕ). ltb z (2 ^ k)) y ∙ sym (ap (λ (c : ℕ). fit (coding c) v) (sym q) ∙ ap (λ (c : Coding). fit c v) (coding-fixed k h))
+  pub fit-fixed : k < 16 → ltb x (1 * 2 ^ k % 2 ^ 64) ≡ fit (coding kind) v
+  fit-fixed h =
+      ap (ltb x) (shifted-one k (omega arith)) ∙ ap (λ (z : ℕ). ltb z (2 ^ k)) y
+      ∙ sym (ap (λ (c : ℕ). fit (coding c) v) (sym q) ∙ ap (λ (c : Coding). fit c v) (coding-fixed k h))
 
   module _ (c : ℕ) (h : 16 ≤ k) (e : column c ≡ column (k - 16)) where
     the-word : wordOf (coding kind) v ≡ getD (words c) x []
     unfolding wordOf
     the-word = ap (λ (z : Coding). wordOf z v) (coding-found kind k c q h e) ∙ ap (λ (z : ℕ). getD (words c) z []) (sym y)
 
-    pub spelt-none : length (words c) ≤ x → word 0 0 ≡ wordOf (coding kind) v
+    pub spelt-none : {n : ℕ} → n ≡ length (words c) → n ≤ x → word 0 0 ≡ wordOf (coding kind) v
     unfolding word
-    spelt-none l = sym (the-word ∙ List·getD-eq-default (words c) [] l)
+    spelt-none e l = sym (the-word ∙ List·getD-eq-default (words c) [] (omega arith))
 
-    pub spelt-word : (n : ℕ) → x < length (words c) → n ≡ packed (getD (words c) x []) → word (n % 8) (n / 8) ≡ wordOf (coding kind) v
-    spelt-word n l p = unpacked (getD (words c) x []) n (words-short c x l) p ∙ sym the-word
+    pub spelt-word : {n m : ℕ} → m ≡ length (words c) → x < m → n ≡ packed (getD (words c) x []) → word (n % 8) (n / 8) ≡ wordOf (coding kind) v
+    spelt-word {n} e l p = unpacked (getD (words c) x []) n (words-short c x (omega arith)) p ∙ sym the-word
 
-    pub fit-column : ltb x (length (words c)) ≡ fit (coding kind) v
-    fit-column = ap (λ (z : ℕ). ltb z (length (words c))) y ∙ sym (ap (λ (z : Coding). fit z v) (coding-found kind k c q h e))
+    pub fit-column : {n : ℕ} → n ≡ length (words c) → ltb x n ≡ fit (coding kind) v
+    fit-column g = ap (ltb x) g ∙ ap (λ (z : ℕ). ltb z (length (words c))) y ∙ sym (ap (λ (z : Coding). fit z v) (coding-found kind k c q h e))
 
 -- no word has more than 16 bits
 pub word-few : (kind v : ℕ) → length (wordOf (coding kind) v) ≤ 16
@@ -117,11 +122,55 @@ pub entry : (c v : ℕ) → c < 5 → v < length (words c) → getD spellTable (
 unfolding rule part
 entry c v h l =
     let n = length (words c) in
-    let room : length (part c) ≡ n = omega (arith, length-take n (drop (startOf c) spellTable), length-drop (startOf c) spellTable, spell-long, start-next c, start-end c h) in
+    let room : length (part c) ≡ n = omega
+    (arith, length-take n (drop (startOf c) spellTable), length-drop (startOf c) spellTable, spell-long, start-next c, start-end c h) in
     sym (getD-take n (drop (startOf c) spellTable) v 0 l ∙ getD-drop (startOf c) spellTable v 0)
     ∙ eqb→eq (getD (part c) v 0) (packed (getD (words c) v [])) (every-at (rule c) (part c) 0 (tested c h) v (omega arith))
+
+-- the place that the code reads lies within the table, and the entry is the word
+module _ {c v a : ℕ} {table : List ℕ} (p : (table ≡ spellTable) × (c < 5) × (v < length (words c))) (s : (a ≡ startOf c) × (a ≤ 92)) where
+  pub spell-inside : a + v < 92
+  spell-inside = omega (arith, s .0, p .2, start-next c, start-end c (p .1))
+
+  pub spell-entry : {e : ℕ} → e ≡ getD table (a + v) 0 → e ≡ packed (getD (words c) v [])
+  spell-entry q = q ∙ ap (λ (l : List ℕ). getD l (a + v) 0) (p .0) ∙ ap (λ (k : ℕ). getD spellTable (k + v) 0) (s .0) ∙ entry c v (p .1) (p .2)
+
+-- ---- what is spelt is laid
+
+pub spelt-long : (kind v b x : ℕ) → word b x ≡ wordOf (coding kind) v → b ≡ length (wordOf (coding kind) v)
+spelt-long kind v b x e = sym (length-word b x) ∙ ap length e
+
+pub spelt-laid : (kind v b x : ℕ) (s t : List ℕ) (at : ℕ) → (word b x ≡ wordOf (coding kind) v) × (b ≤ 16) → t ≡ laid s at (word (min b 16) x)
+    → t ≡ laid s at (wordOf (coding kind) v)
+spelt-laid kind v b x s t at e q =
+    let m : min b 16 ≡ b = omega (arith, e .1) in
+    q ∙ ap (λ (n : ℕ). laid s at (word n x)) m ∙ ap (λ (l : List Bool). laid s at l) (e .0)
 
 -- the word of an unused place
 pub word-none : (kind v : ℕ) → kind ≡ 0 → wordOf (coding kind) v ≡ []
 unfolding word
 word-none kind v e = ap (λ (k : ℕ). wordOf (coding k) v) e ∙ ap (λ (c : Coding). wordOf c v) (coding-fixed 0 (omega arith)) ∙ word-fixed 0 v
+
+pub none-long : (kind v : ℕ) → kind ≡ 0 → 0 ≡ length (wordOf (coding kind) v)
+none-long kind v e = sym (ap length (word-none kind v e))
+
+pub none-laid : (kind v : ℕ) (s : List ℕ) (at : ℕ) → kind ≡ 0 → Bytes s → s ≡ laid s at (wordOf (coding kind) v)
+none-laid kind v s at e h = sym (ap (laid s at) (word-none kind v e) ∙ laid-none s at h)
+
+-- ---- where the columns begin, as the code has it
+
+abbrev pub starts : List ℕ
+starts = 0 ∷ 4 ∷ 12 ∷ 28 ∷ 60 ∷ 92 ∷ []
+
+start-rule : ℕ → ℕ → Bool
+start-rule c x = eqb x (startOf c) && leb x 92
+
+pub start-right : (c : ℕ) → c < 6 → (getD starts c 0 ≡ startOf c) × (getD starts c 0 ≤ 92)
+unfolding start-rule startOf words columnOf table16 table20
+start-right c h =
+    let x = getD starts c 0 in
+    let t = and-T (eqb x (startOf c)) (leb x 92) (every-at start-rule starts 0 tt c h) in
+    (eqb→eq x (startOf c) (t .0), leb→le x 92 (t .1))
+
+pub start-more : (c : ℕ) → startOf (c + 1) ≡ startOf c + length (words c)
+start-more c = ap startOf (add-one c) ∙ start-next c

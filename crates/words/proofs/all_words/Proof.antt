@@ -4,9 +4,6 @@ use Rattle.words.specs.Spell.{spellTable}
 use Rattle.words.proofs.all_words.Statement.{statement}
 use Rattle.words.proofs.all_words.Tie as tie
 
-returns : tie.Need-returns
-unfolding spellTable
-returns c = refl
-
 pub all-words-spec : {M : Type 1} → statement M
-all-words-spec = tie.close (tie.spec returns)
+unfolding spellTable
+all-words-spec = tie.close (tie.spec (λ c. refl))

@@ -4,12 +4,6 @@ use Rattle.words.specs.Look.{lookTable}
 use Rattle.words.proofs.word_at.Statement.{statement}
 use Rattle.words.proofs.word_at.Tie as tie
 
-word-in-requires : tie.Need-word-in-requires
-unfolding lookTable
-word-in-requires c κs = refl
-
-returns : tie.Need-returns
-returns c = c .word-in .ensures
-
 pub word-at-spec : {M : Type 1} → statement M
-word-at-spec = tie.close (tie.spec word-in-requires returns)
+unfolding lookTable
+word-at-spec = tie.close (tie.spec (λ c κs. refl) (λ c. c .word-in .ensures))

@@ -4,12 +4,6 @@ use Rattle.words.specs.Spell.{spellTable}
 use Rattle.words.proofs.word_bits.Statement.{statement}
 use Rattle.words.proofs.word_bits.Tie as tie
 
-bits-in-requires : tie.Need-bits-in-requires
-unfolding spellTable
-bits-in-requires c κs = refl
-
-returns : tie.Need-returns
-returns c = c .bits-in .ensures
-
 pub word-bits-spec : {M : Type 1} → statement M
-word-bits-spec = tie.close (tie.spec bits-in-requires returns)
+unfolding spellTable
+word-bits-spec = tie.close (tie.spec (λ c κs. refl) (λ c. c .bits-in .ensures))

@@ -36,6 +36,7 @@ use Rattle.layout.specs.Parts.{flagBits, total, kindsFor, firstOf, layoutOf}
 use Rattle.layout.proofs.Laws.Parts.{Laid, laid-out, laid-told}
 use Rattle.writer.specs.Writes.{frameOf, bytesFor, roomReply, lateReply, writeReply, outAfter, writingOf}
 use Rattle.writer.proofs.Laws.Writes.{reply-late, rooms-enough, rooms-told, late-told, late-pad}
+use Rattle.writer.specs.declared.Writing.{Writing}
 use Rattle.layout.specs.declared.Parts.{Parts}
 use Rattle.writer.specs.Bodies.{bodyBits, Passed}
 
@@ -120,7 +121,17 @@ module _ (r : Record) (vs ts s₀ s₁ s₂ s₃ s₄ s₅ : List ℕ) (f n m k 
   unfolding a b c d e bodyBits
   body-laid =
       let p : 12 + n + m + k ≡ 8 + length (((a ++ b) ++ c) ++ d) =
-      omega (arith, length-append ((a ++ b) ++ c) d, length-append (a ++ b) c, length-append a b, four, en, em, ek, length-word (spare (r .transient)) (r .noise)) in
+      omega (
+        arith,
+        length-append ((a ++ b) ++ c) d,
+        length-append (a ++ b) c,
+        length-append a b,
+        four,
+        en,
+        em,
+        ek,
+        length-word (spare (r .transient)) (r .noise),
+      ) in
       e₅ ∙ ap₂ (λ (x : List ℕ) (i : ℕ). laid x i e) four-parts p ∙ laid-append s₀ 8 (((a ++ b) ++ c) ++ d) e
       ∙ ap (laid s₀ 8) (append-assoc ((a ++ b) ++ c) d e ∙ append-assoc (a ++ b) c (d ++ e) ∙ append-assoc a b (c ++ (d ++ e)))
 
@@ -209,26 +220,41 @@ module _ (r : Record) (cs ts : List ℕ) (room : ℕ) (l : length (r .norms) ≡
 
 -- ---- the answers
 
-pub refused-out : (x : ℕ) (r : Record) (cs ts out : List ℕ) → (x ≡ 0 → ⊥) → (record { reply = x; next = 0 } ≡ writingOf x (r .mode)) × (out ≡ outAfter x r cs ts out)
+pub refused-out : (x : ℕ) (r : Record) (cs ts out : List ℕ) → (x ≡ 0 → ⊥)
+    → (record { reply = x; next = 0 } ≡ writingOf x (r .mode)) × (out ≡ outAfter x r cs ts out)
 refused-out x r cs ts out n = (rw (ne-eqb x 0 n), rw (ne-eqb x 0 n))
 
--- what is needed of a record that passes
-module _ (r : Record) (cs ts out : List ℕ) (P : Passed r cs ts (length out)) where
+-- a reply other than 0 is answered alone, and leaves the output as it was
+pub refuses : (r : Record) (cs ts out : List ℕ) {w : Writing} {x : ℕ} → w ≡ record { reply = x; next = 0 } → x ≡ writeReply r cs ts (length out)
+    → (x ≡ 0 → ⊥) → (w ≡ writingOf (writeReply r cs ts (length out)) (r .mode)) × (out ≡ outAfter (writeReply r cs ts (length out)) r cs ts out)
+refuses r cs ts out {x = x} a e n =
+    let q = refused-out x r cs ts out n in
+    (a ∙ q .0 ∙ ap (λ (y : ℕ). writingOf y (r .mode)) e, q .1 ∙ ap (λ (y : ℕ). outAfter y r cs ts out) e)
+
+-- a record that passes, and bytes to lay it over
+pub record Ready (r : Record) (cs ts out : List ℕ) : Type 0 where
+  pub passes : Passed r cs ts (length out)
+  pub norms : length (r .norms) ≡ 44
+  pub bytes : Bytes out
+
+module _ {r : Record} {cs ts out : List ℕ} (R : Ready r cs ts out) where
   -- a mode of 0 to 19 has a prefix byte
   pub pass-prefix : byteOf (r .mode) ≡ Byte.OutOfRange → ⊥
-  pass-prefix e = let w = sym e ∙ byte-mode (r .mode) (omega (arith, P .rooms .mode)) in let z : _≡_ {A = ℕ} 0 1 = cc in omega arith
+  pass-prefix e = let w = sym e ∙ byte-mode (r .mode) (omega (arith, R .passes .rooms .mode)) in let z : _≡_ {A = ℕ} 0 1 = cc in omega arith
 
   pass-byte : (y : ℕ) → byteOf (r .mode) ≡ Byte.Is y → y ≡ byteWith 0 (r .mode + 8) 0
-  pass-byte y e = ap number (sym e ∙ byte-mode (r .mode) (omega (arith, P .rooms .mode)))
+  pass-byte y e = ap number (sym e ∙ byte-mode (r .mode) (omega (arith, R .passes .rooms .mode)))
     where
       number : Byte → ℕ
       number (Byte.Is b) = b
       number Byte.OutOfRange = 0
 
-  pub pass-out : length (r .norms) ≡ 44 → (n y : ℕ) (b : Bytes out) (t : List ℕ) → n ≡ modeBytes (r .mode) → byteOf (r .mode) ≡ Byte.Is y → t ≡ laid (set out 0 y) 8 (bodyBits r (take 800 cs) ts)
-      → (record { reply = done; next = n + 1 } ≡ writingOf (writeReply r cs ts (length out)) (r .mode)) × (t ≡ outAfter (writeReply r cs ts (length out)) r cs ts out)
-  pass-out l n y b t en ey et =
-      let q : writeReply r cs ts (length out) ≡ 0 = writes r cs ts (length out) P in (
+  pub pass-out : {n y : ℕ} {t : List ℕ} → n ≡ modeBytes (r .mode) → byteOf (r .mode) ≡ Byte.Is y → t ≡ laid (set out 0 y) 8 (bodyBits r (take 800 cs) ts)
+      → (record { reply = done; next = n + 1 } ≡ writingOf (writeReply r cs ts (length out)) (r .mode))
+      × (t ≡ outAfter (writeReply r cs ts (length out)) r cs ts out)
+  pass-out {n} {y} {t} en ey et =
+      let q : writeReply r cs ts (length out) ≡ 0 = writes r cs ts (length out) (R .passes) in (
         rw (eq-eqb (writeReply r cs ts (length out)) 0 q) (ap (λ (k : ℕ). record { reply = done; next = k + 1 }) en),
-        rw (eq-eqb (writeReply r cs ts (length out)) 0 q) (et ∙ out-made r cs ts (length out) l P out y b (P .rooms .out) (pass-byte y ey)),
+        rw (eq-eqb (writeReply r cs ts (length out)) 0 q)
+            (et ∙ out-made r cs ts (length out) (R .norms) (R .passes) out y (R .bytes) (R .passes .rooms .out) (pass-byte y ey)),
       )

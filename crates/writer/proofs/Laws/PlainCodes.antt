@@ -60,7 +60,8 @@ unfolding startReply
 start-not r c = branches (ltb 19 (r .mode)) (λ z. omega arith) (branches (ltb c 800) (λ z. omega arith) (norms-not (r .transient) (r .norms)))
 
 -- codes that passed the tests before them
-codes-paid : (r : Record) (cs : List ℕ) → r .«flag_c» ≡ false → length (r .norms) ≡ 44 → Started r (length cs) → codesLong (kindsFor r) (take 800 cs) ≤ budgetFor r
+codes-paid : (r : Record) (cs : List ℕ) → r .«flag_c» ≡ false → length (r .norms) ≡ 44 → Started r (length cs)
+    → codesLong (kindsFor r) (take 800 cs) ≤ budgetFor r
 unfolding kindsOf kindsAt
 codes-paid r cs c l S =
     let w = writable-reply (r .transient) (r .norms) l (S .norms) in
@@ -78,7 +79,8 @@ plain-layout r cs c l e =
     let z = eqb-true x 0 t in
     let q : partsIn (budgetFor r) (ratesFor r) kind vs .reply ≡ pastBudget = ap (λ (p : Parts). p .reply) (layout-parts r cs x refl z) ∙ e in
     by-bool (fits (map coding kind) vs)
-    (λ f. let w = ap (λ (p : Parts). p .reply) (parts-made (budgetFor r) (ratesFor r) kind vs f _ refl (codes-paid r cs c l (started r (length cs) z))) in omega arith)
+    (λ f. let w = ap (λ (p : Parts). p .reply)
+    (parts-made (budgetFor r) (ratesFor r) kind vs f _ refl (codes-paid r cs c l (started r (length cs) z))) in omega arith)
     (λ f. let w = ap (λ (p : Parts). p .reply) (parts-wide (budgetFor r) (ratesFor r) kind vs f) in omega arith))
     (λ t. start-not r (length cs) (ap (λ (p : Parts). p .reply) (layout-start r cs x refl (eqb-false x 0 t)) ∙ e))
 
@@ -89,6 +91,7 @@ plain-write r cs ts room c l =
     let count = r .«tail_bits» in
     branches (eqb (roomReply r (length cs) (length ts) room) 0)
     (branches (eqb (layoutOf r cs .reply) 0)
-    (branches (eqb count (layoutOf r cs .«tail_bits»)) (branches (clear (view ts count (2560 - count))) (λ z. omega arith) (λ z. omega arith)) (λ z. omega arith))
+    (branches (eqb count (layoutOf r cs .«tail_bits»)) (branches (clear (view ts count (2560 - count))) (λ z. omega arith) (λ z. omega arith))
+    (λ z. omega arith))
     (plain-layout r cs c l))
     (rooms-not r (length cs) (length ts) room)

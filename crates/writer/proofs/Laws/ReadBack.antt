@@ -45,7 +45,8 @@ bytes-view s n h l =
     ap (bytesOf n) p ∙ ap (λ (x : ℕ). bytesOf x (bitsOf (take n s))) (sym k) ∙ bytes-bits (take n s) h
 
 -- a tail that is clear behind its bits is their bytes
-tail-back : (ts : List ℕ) (t : ℕ) → Bytes (take 320 ts) → 320 ≤ length ts → t ≤ 2560 → clear (view ts t (2560 - t)) ≡ true → tailBytes (view ts 0 t) ≡ take 320 ts
+tail-back : (ts : List ℕ) (t : ℕ) → Bytes (take 320 ts) → 320 ≤ length ts → t ≤ 2560 → clear (view ts t (2560 - t)) ≡ true
+    → tailBytes (view ts 0 t) ≡ take 320 ts
 unfolding tailBytes
 tail-back ts t h l u e =
     let n : 2560 - length (view ts 0 t) ≡ length (view ts t (2560 - t)) = ap (λ (k : ℕ). 2560 - k) (length-view ts 0 t) ∙ sym (length-view ts t (2560 - t)) in
@@ -61,11 +62,13 @@ module _ (r : Record) (cs ts : List ℕ) (room : ℕ) (l : length (r .norms) ≡
       let n = modeBytes (r .mode) in
       let x = frameOf r cs ts in
       let w = frame (total r) .write x in
-      ap₂ (λ (k : ℕ) (b : List Bool). outcome (r .mode) (frame (k * 8) .read b)) (length-bytes n w) (bits-bytes n w (meant-long r cs ts room l P) ∙ sym (append-nil w))
+      ap₂ (λ (k : ℕ) (b : List Bool). outcome (r .mode) (frame (k * 8) .read b)) (length-bytes n w) (bits-bytes n w (meant-long r cs ts room l P)
+      ∙ sym (append-nil w))
       ∙ ap (outcome (r .mode)) (frame (total r) .back x [] (meant r cs ts room l P) zero-le)
 
   -- the bytes written, with anything behind them, are read as the frame
-  pub answer-back : (rest : List ℕ) (codes tail : ℕ) → 800 ≤ codes → 320 ≤ tail → readAnswer (bytesFor r cs ts ++ rest) codes tail ≡ sound (r .mode) (frameOf r cs ts)
+  pub answer-back : (rest : List ℕ) (codes tail : ℕ) → 800 ≤ codes → 320 ≤ tail
+      → readAnswer (bytesFor r cs ts ++ rest) codes tail ≡ sound (r .mode) (frameOf r cs ts)
   unfolding readAnswer bytesFor
   answer-back rest codes tail hc ht =
       let m = r .mode in
@@ -90,7 +93,20 @@ module _ (r : Record) (cs ts : List ℕ) (room : ℕ) (l : length (r .norms) ≡
   read-back rest codes tail h hc ht =
       let a = answer-back rest (length codes) (length tail) hc ht in (
         ap readingOf a
-            ∙ ap (λ (t : ℕ). record { reply = done; next = modeBytes (r .mode) + 1; «record» = record { mode = r .mode; transient = r .transient; «flag_l» = r .«flag_l»; «flag_n» = r .«flag_n»; «flag_c» = r .«flag_c»; norms = r .norms; noise = r .noise; «tail_bits» = t } }) (length-view ts 0 (r .«tail_bits»)),
+            ∙ ap (λ (t : ℕ). record {
+              reply = done;
+              next = modeBytes (r .mode) + 1;
+              «record» = record {
+                mode = r .mode;
+                transient = r .transient;
+                «flag_l» = r .«flag_l»;
+                «flag_n» = r .«flag_n»;
+                «flag_c» = r .«flag_c»;
+                norms = r .norms;
+                noise = r .noise;
+                «tail_bits» = t;
+              };
+            }) (length-view ts 0 (r .«tail_bits»)),
         ap (codesAfter codes) a,
         ap (tailAfter tail) a ∙ ap (λ (x : List ℕ). x ++ drop 320 tail) (tail-back ts (r .«tail_bits») h (P .rooms .tail) few (P .pad)),
       )

@@ -258,11 +258,13 @@ module _ (mode : ℕ) (a b c d : Bool) (ns vs : List ℕ) (z : ℕ) (tb : List B
       let n = modeBytes mode in
       let body = bodyOf n src in
       let e = frame t .there (bitsOf body) x [] (S .body) .0 in
-      ap₂ (λ (b : ℕ) (l : List ℕ). b ∷ l) (S .first (k 0)) (ap (λ (y : Frame). bytesOf n (frame t .write y)) same-frame ∙ ap (bytesOf n) (sym (append-nil (frame t .write x)) ∙ sym e)
+      ap₂ (λ (b : ℕ) (l : List ℕ). b ∷ l) (S .first (k 0)) (ap (λ (y : Frame). bytesOf n (frame t .write y)) same-frame
+      ∙ ap (bytesOf n) (sym (append-nil (frame t .write x)) ∙ sym e)
       ∙ ap (λ (j : ℕ). bytesOf j (bitsOf body)) (sym (length-body src n (S .long))) ∙ bytes-bits body (bytes-body n src k))
 
 -- what was read is accepted by the writer, and its bytes return: the prefix byte with R = 0, and the body
-pub write-back : (src codes tail : List ℕ) (mode : ℕ) (x : Frame) (room : ℕ) → Bytes src → readAnswer src (length codes) (length tail) ≡ sound mode x → modeBytes mode < room
+pub write-back : (src codes tail : List ℕ) (mode : ℕ) (x : Frame) (room : ℕ) → Bytes src → readAnswer src (length codes) (length tail) ≡ sound mode x
+    → modeBytes mode < room
     → (writeReply (recordOf mode x) (codesAfter codes (sound mode x)) (tailAfter tail (sound mode x)) room ≡ 0)
     × (bytesFor (recordOf mode x) (codesAfter codes (sound mode x)) (tailAfter tail (sound mode x)) ≡ zeroR (getD src 0 0) ∷ bodyOf (modeBytes mode) src)
 unfolding r cs ts
@@ -272,5 +274,7 @@ write-back src codes tail mode (a ∷ b ∷ c ∷ d ∷ [], (ns, (vs, (z, tb))))
 write-back src codes tail mode ([], y) room k e h = absurd (let q = four-flags src (length codes) (length tail) mode ([], y) e in omega arith)
 write-back src codes tail mode (a ∷ [], y) room k e h = absurd (let q = four-flags src (length codes) (length tail) mode (a ∷ [], y) e in omega arith)
 write-back src codes tail mode (a ∷ b ∷ [], y) room k e h = absurd (let q = four-flags src (length codes) (length tail) mode (a ∷ b ∷ [], y) e in omega arith)
-write-back src codes tail mode (a ∷ b ∷ c ∷ [], y) room k e h = absurd (let q = four-flags src (length codes) (length tail) mode (a ∷ b ∷ c ∷ [], y) e in omega arith)
-write-back src codes tail mode (a ∷ b ∷ c ∷ d ∷ i ∷ l, y) room k e h = absurd (let q = four-flags src (length codes) (length tail) mode (a ∷ b ∷ c ∷ d ∷ i ∷ l, y) e in omega arith)
+write-back src codes tail mode (a ∷ b ∷ c ∷ [], y) room k e h =
+    absurd (let q = four-flags src (length codes) (length tail) mode (a ∷ b ∷ c ∷ [], y) e in omega arith)
+write-back src codes tail mode (a ∷ b ∷ c ∷ d ∷ i ∷ l, y) room k e h =
+    absurd (let q = four-flags src (length codes) (length tail) mode (a ∷ b ∷ c ∷ d ∷ i ∷ l, y) e in omega arith)

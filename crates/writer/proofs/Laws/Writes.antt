@@ -121,7 +121,8 @@ rooms-told r c t room e =
     by-bool (ltb t 320) (λ d. absurd (let z = room-tail r c t room m lc (ltb-true t 320 d) in omega arith))
     (λ d.
     let lt = ltb-false t 320 d in
-    by-bool (leb room (modeBytes (r .mode))) (λ f. absurd (let z = room-out r c t room m lc lt (modeBytes (r .mode)) refl (leb-true room (modeBytes (r .mode)) f) in omega arith))
+    by-bool (leb room (modeBytes (r .mode)))
+    (λ f. absurd (let z = room-out r c t room m lc lt (modeBytes (r .mode)) refl (leb-true room (modeBytes (r .mode)) f) in omega arith))
     (λ f.
     let lo = leb-false room (modeBytes (r .mode)) f in
     by-bool (quietOf (r .transient) (r .noise))

@@ -13,14 +13,16 @@ use Rattle.writer.proofs.late_reply.Statement.{statement}
 use Rattle.writer.proofs.late_reply.Tie as tie
 
 -- whether the padding is clear
-padding : (d : tie.After-all-clear) → let a : tie.Start = search in clear (view (now (a .args .tail)) (a .args .count) (2560 - a .args .count)) ≡ d .all-clear .result
+padding : (d : tie.After-all-clear)
+    → let a : tie.Start = search in clear (view (now (a .args .tail)) (a .args .count) (2560 - a .args .count)) ≡ d .all-clear .result
 padding d =
     let w : tie.After-wide16 = search in
     let a : tie.Start = search in
     ap (λ (k : ℕ). clear (view (now (a .args .tail)) k (2560 - k))) (sym (w .wide16 .ensures .0)) ∙ sym (d .all-clear .ensures)
 
 -- the count is right
-padded : (b : Bool) (d : tie.After-all-clear) → d .all-clear .result ≡ b → let a : tie.Start = search in cond b done wrongTail ≡ lateReply (a .args .parts) (now (a .args .tail)) (a .args .count)
+padded : (b : Bool) (d : tie.After-all-clear) → d .all-clear .result ≡ b
+    → let a : tie.Start = search in cond b done wrongTail ≡ lateReply (a .args .parts) (now (a .args .tail)) (a .args .count)
 padded b d e = let a : tie.Start = search in late-pad (a .args .parts) (now (a .args .tail)) (a .args .count) (search) b (search) (padding d ∙ e)
 
 pub late-reply-spec : {M : Type 1} → statement M
