@@ -5,7 +5,7 @@ use Prim.Native.Nat.{ℕ, zero, suc, _+_, _-_}
 use lib.ListN.{length, take, drop}
 use Rattle.ground.specs.Fills.{table}
 use Rattle.prefix.specs.Sizes.{lengthBytes}
-use Rattle.prefix.specs.Prefix.{prefixOf}
+use Rattle.prefix.specs.Prefix.{prefixOf, zeroR}
 use Rattle.prefix.specs.declared.Prefix.{Prefix}
 use Rattle.prefix.specs.declared.Prefix.the-variants.{Data, NoData, NoByte, Marked, Reserved}
 use Rattle.recording.specs.Walk.{walk}
@@ -46,3 +46,8 @@ framesOf s = table (walk (length s) s .count) (frameAt s)
 unfoldable pub flat : List (List ℕ) → List ℕ
 flat [] = []
 flat (f ∷ fs) = f ++ flat fs
+
+-- a frame with R zero in its prefix byte
+abbrev pub zeroed : List ℕ → List ℕ
+zeroed [] = []
+zeroed (b ∷ f) = zeroR b ∷ f

@@ -2,12 +2,14 @@
 -- Assumes nothing.
 use mathlib.Core.Bool.{Bool, true, false, cond}
 use mathlib.Core.List.{List}
-use Prim.Native.Nat.{ℕ, zero, suc, _+_, _≤_}
+use Prim.Native.Nat.{ℕ, zero, suc, _+_, _≤_, _<_}
 use lib.Dec.{eqb, ltb}
 use lib.ListN.{length, take, drop}
 use Rattle.ground.specs.Runs.{runs}
 use Rattle.ground.specs.Sums.{nth, sumTo}
 use Rattle.ground.specs.Replies.{done, shortRoom, wrongChannels}
+use Rattle.recording.specs.Walk.{mostFrames}
+use Rattle.recording.specs.Frames.{Frames}
 use Rattle.recording.specs.Blocks.{isCount, walkBlocks}
 use Rattle.recording.specs.declared.answer.Check.{Check}
 use Rattle.frames.specs.Places.{frameAt}
@@ -74,3 +76,11 @@ joinAfter src lengths out = copiedTo out (joinAnswer src lengths (length out)) (
 pub record Lying (src lengths : List ℕ) : Type 0 where
   pub few : length lengths ≤ 8
   pub inside : startOf lengths (length lengths) ≤ length src
+
+-- 1 to 8 sound recordings of k frames each, one behind the other in the source
+pub record Joinable (src lengths : List ℕ) (k : ℕ) : Type 0 where
+  pub some : 1 ≤ length lengths
+  pub most : length lengths ≤ 8
+  pub inside : startOf lengths (length lengths) ≤ length src
+  pub few : k ≤ mostFrames
+  pub sound : (c : ℕ) → c < length lengths → Frames k (recordingAt src lengths c)

@@ -1,584 +1,122 @@
--- Demand 1. No input makes it fault: every public call takes any bytes and numbers and gives a numbered answer; a refused call leaves lent buffers
--- exactly as they were.
--- That no call faults is what the proof of each function says, and none of these calls asks anything of its caller. Here is the rest: the numbers of
--- 01's table that each call can answer, and what a refusal leaves.
+-- Demand 1. "No input makes it fault. Every public call takes any bytes and numbers and gives a numbered answer; a refused call leaves lent buffers
+-- exactly as they were." That no call faults is what the proof of each function says, and no public call asks anything of its caller. Here is the rest.
+-- The calls stand in Calls; `OneOf xs n` says that n is one of xs.
 -- Assumes nothing.
-use mathlib.Core.Path.{_≡_, refl, sym, ap, subst, _∙_}
-use mathlib.Core.Bool.{Bool, true, false, cond, _&&_}
-use mathlib.Core.List.{List, [], _∷_, _++_, map}
-use mathlib.Core.Logic.{inl, inr}
-use mathlib.Core.Option.{Option, some, none}
-use Prim.Native.Nat.{ℕ, zero, suc, _+_, _-_, _^_, _≤_, _<_}
-use native.Mathlib.Omega.{arith}
-use lib.Dec.{eqb, ltb, leb}
+use mathlib.Core.Path.{_≡_}
+use mathlib.Core.Bool.{Bool, false, cond}
+use mathlib.Core.List.{List, [], _∷_}
+use Prim.Native.Nat.{ℕ, _<_}
+use lib.Dec.{eqb}
 use lib.IntN.{ℤ, pos}
-use lib.ListN.{length, getD, take, replicate}
-use borrow.Author.Tests.{ne-eqb, lt-ltb, eqb-true}
-use Rattle.ground.specs.Cases.{by-bool}
-use Rattle.ground.specs.Fills.{from}
-use Rattle.ground.specs.Indices.{inRange}
-use Rattle.ground.specs.Replies.{done, outOfRange, farApart, shortRoom, wideCode, pastBudget, wrongTail}
-use Rattle.bits.specs.Bits.{view}
-use Rattle.bits.specs.Codings.{Coding, fixed, prefix, Answer, got, no, orElse, find, strip, keep, below as belowIn, whole, unword}
-use Rattle.words.specs.Tables.{coding}
-use Rattle.words.specs.Answers.{placed, wordAt, numberOf}
-use Rattle.runs.specs.Runs.{passedUp, runReply}
+use lib.ListN.{replicate}
+use Rattle.ground.specs.Replies.{done, noData}
+use Rattle.words.specs.Answers.{wordAt, numberOf}
 use Rattle.words.specs.declared.Word.{Word}
-use Rattle.words.specs.declared.Word.the-variants.{At, No}
-use Rattle.prefix.specs.Sizes.{modeBytes}
-use Rattle.prefix.specs.Prefix.{prefixOf, byteOf, readingOf as prefixReading, writingOf as prefixWriting, Reading as PrefixAnswer, Writing as ByteAnswer}
-use Rattle.prefix.specs.declared.Prefix.{Prefix}
-use Rattle.prefix.specs.declared.Prefix.the-variants.{Data, NoData, NoByte, Marked, Reserved}
-use Rattle.prefix.specs.declared.Byte.{Byte}
-use Rattle.prefix.specs.declared.Byte.the-variants.{Is, OutOfRange}
-use Rattle.order.specs.Order.{sent}
-use Rattle.norms.specs.Steps.{stepsClose}
-use Rattle.norms.specs.Answers.{normReply, choiceOf as flagN}
-use Rattle.legal.specs.Answers.{legalised}
-use Rattle.norms.specs.declared.Choice.{Choice}
-use Rattle.legal.specs.declared.Legal.{Legal}
-use Rattle.weights.specs.Weights.{weighed}
-use Rattle.weights.specs.declared.Weights.{Weights}
-use Rattle.allotment.specs.Allotment.{sharesOf}
-use Rattle.allotment.specs.declared.Shares.{Shares}
-use Rattle.lattice.specs.Lattice.{back}
-use Rattle.points.specs.Answers.{owns, below, agree, pointOf, indexOf}
-use Rattle.points.specs.declared.Point.{Point}
-use Rattle.points.specs.declared.Index.{Index}
-use Rattle.codebook.specs.Codebook.{eight, book, placeOf, rowPoint, rowIndex}
-use Rattle.codebook.specs.declared.Row.{Row}
-use Rattle.frame.specs.Answers.{Outcome, refused, empty, sound, readAnswer, noRecord, readingOf, codesAfter, tailAfter}
-use Rattle.frame.specs.declared.Reading.{Reading}
+use Rattle.runs.specs.Runs.{passedUp, runReply}
+use Rattle.frame.specs.Answers.{noRecord, stoppedAt}
 use Rattle.frame.specs.declared.Record.{Record}
-use Rattle.writer.specs.Tests.{quietOf}
-use Rattle.layout.specs.Fits.{fits}
-use Rattle.tails.specs.Tails.{clear}
-use Rattle.writer.specs.Empty.{emptyReply, emptyAfter}
-use Rattle.layout.specs.Parts.{kindsFor, budgetFor, codesLong, startReply, partsIn, layoutOf}
-use Rattle.writer.specs.Writes.{roomReply, tailReply, writeReply, outAfter, writingOf}
-use Rattle.choice.specs.Choice.{plain, choiceReply, choiceOf as flagC}
-use Rattle.layout.specs.declared.Parts.{Parts}
-use Rattle.writer.specs.declared.Writing.{Writing as Written}
-use Rattle.listing.specs.Listing.{listedIn, outAfter as listed}
-use Rattle.listing.specs.declared.Listing.{Listing}
-use Rattle.recording.specs.Walk.{walk, booked, mostFrames, checkOver, checkOf}
-use Rattle.recording.specs.declared.answer.Check.{Check}
-use Rattle.recording.specs.Checked.{Number}
-use Rattle.recording.proofs.Laws.Checked.{check-replies}
-use Rattle.recording.specs.Frames.{Frames}
-use Rattle.recording.proofs.Laws.Frames.{frame-lawful}
-use Rattle.recording.proofs.Laws.Units.{Told, Stop, ended, passed, met, walk-told}
-use Rattle.recording.specs.Blocks.{isCount, blockStep, walkBlocks, checkBlocks}
-use Rattle.recording.proofs.Laws.Blocks.{block-lawful, counted}
-use Rattle.block_reader.specs.Reading as blockRead
-use Rattle.block_writer.specs.Writing as blockWritten
 use Rattle.block_writer.specs.declared.Records.{Records}
-use Rattle.block_writer.proofs.Laws.ReplyNumbers.{read-numbers, write-numbers}
-use Rattle.channels.specs.Copies.{checkAnswer, extracted, isAmong, extractAnswer, extractAfter, copiedTo}
-use Rattle.joining.specs.Joining.{startOf, recordingAt, ownCheck, refusedIn, equalCounts, checkAll, joinedOf, joinAnswer, joinAfter}
-use Rattle.channels.specs.declared.Copied.{Copied}
-use Rattle.channels.proofs.Laws.Extracting.{among-told}
-use Rattle.promises.specs.Numbers.{among, OneOf, picked}
-use Rattle.promises.specs.Reads.{each-reading}
-
--- ---- reading a frame: 0, 1, 2, 3, 4, 5, 6, 7, 10, 14
-
-abbrev reading : List ℕ
-reading = 0 ∷ 1 ∷ 2 ∷ 3 ∷ 4 ∷ 5 ∷ 6 ∷ 7 ∷ 10 ∷ 14 ∷ []
-
-abbrev Reads : Outcome → Type 0
-Reads o = OneOf reading (readingOf o .reply)
-
-pub read-number : (src : List ℕ) (codes tail : ℕ) → OneOf reading (readingOf (readAnswer src codes tail) .reply)
-unfolding among
-read-number = each-reading Reads tt tt tt tt tt tt tt tt tt (λ mode x. tt)
-
--- any reply but 0 leaves the lent numbers and bytes as they were
-pub read-keeps : (codes tail : List ℕ) (o : Outcome) → (readingOf o .reply ≡ 0 → ⊥) → (codesAfter codes o ≡ codes) × (tailAfter tail o ≡ tail)
-read-keeps codes tail (refused x) n = (refl, refl)
-read-keeps codes tail empty n = (refl, refl)
-read-keeps codes tail (sound mode x) n = absurd (n refl)
-
--- ---- writing a frame: 0, 7, 8, 9, 10, 12, 13
-
-abbrev writing : List ℕ
-writing = 0 ∷ 7 ∷ 8 ∷ 9 ∷ 10 ∷ 12 ∷ 13 ∷ []
-
--- what the norms say: 0, 8, 9
-norm-among : (xs : List ℕ) → OneOf xs 0 → OneOf xs 8 → OneOf xs 9 → (transient : Bool) (norms : List ℕ) → OneOf xs (normReply transient norms)
-unfolding normReply
-norm-among xs z e n transient norms =
-    picked (OneOf xs) (inRange norms 44 && leb (getD norms 0 0) 31) (cond (stepsClose (sent transient norms)) done farApart) outOfRange
-    (picked (OneOf xs) (stepsClose (sent transient norms)) done farApart z n) e
-
-room-number : (r : Record) (codes tail room : ℕ) → OneOf writing (roomReply r codes tail room)
-unfolding among roomReply
-room-number r codes tail room =
-    picked (OneOf writing) (ltb 19 (r .mode)) outOfRange _ tt
-    (picked (OneOf writing) (ltb codes 800) shortRoom _ tt
-    (picked (OneOf writing) (ltb tail 320) shortRoom _ tt
-    (picked (OneOf writing) (ltb room (modeBytes (r .mode) + 1)) shortRoom _ tt
-    (picked (OneOf writing) (quietOf (r .transient) (r .noise)) done outOfRange tt tt))))
-
--- how a record starts: 0, 8, 9, 10
-start-among : (xs : List ℕ) → OneOf xs 0 → OneOf xs 8 → OneOf xs 9 → OneOf xs 10 → (r : Record) (codes : ℕ) → OneOf xs (startReply r codes)
-unfolding startReply
-start-among xs z e n t r codes =
-    picked (OneOf xs) (ltb 19 (r .mode)) outOfRange _ e (picked (OneOf xs) (ltb codes 800) shortRoom _ t (norm-among xs z e n (r .transient) (r .norms)))
-
--- how it is laid out: 7 and 12 too
-layout-among : (xs : List ℕ) → OneOf xs 0 → OneOf xs 7 → OneOf xs 8 → OneOf xs 9 → OneOf xs 10 → OneOf xs 12 → (r : Record) (codes : List ℕ)
-    → OneOf xs (layoutOf r codes .reply)
-unfolding layoutOf partsIn
-layout-among xs z s e n t w r codes =
-    let ks = kindsFor r in
-    let vs = take 800 codes in
-    let x = startReply r (length codes) in
-    picked (λ (p : Parts). OneOf xs (p .reply)) (eqb x 0) _ _
-    (picked (λ (p : Parts). OneOf xs (p .reply)) (fits (map coding ks) vs) _ _
-    (picked (λ (p : Parts). OneOf xs (p .reply)) (ltb (budgetFor r) (codesLong ks vs)) _ _ s z) w)
-    (start-among xs z e n t r (length codes))
-
-tail-number : (ts : List ℕ) (left count : ℕ) → OneOf writing (tailReply ts left count)
-unfolding among tailReply
-tail-number ts left count =
-    picked (OneOf writing) (eqb count left) _ wrongTail (picked (OneOf writing) (clear (view ts count (2560 - count))) done wrongTail tt tt) tt
-
-pub write-number : (r : Record) (codes tail : List ℕ) (room : ℕ) → OneOf writing (writeReply r codes tail room)
-unfolding among writeReply
-write-number r codes tail room =
-    let p = layoutOf r codes in
-    picked (OneOf writing) (eqb (roomReply r (length codes) (length tail) room) 0) _ _
-    (picked (OneOf writing) (eqb (p .reply) 0) _ _ (tail-number tail (p .«tail_bits») (r .«tail_bits»)) (layout-among writing tt tt tt tt tt tt r codes))
-    (room-number r (length codes) (length tail) room)
-
-pub write-keeps : (reply : ℕ) (r : Record) (codes tail out : List ℕ) → (reply ≡ 0 → ⊥) → outAfter reply r codes tail out ≡ out
-write-keeps reply r codes tail out n = rw (ne-eqb reply 0 n)
-
--- ---- an empty frame: 0, 10
-
-pub empty-number : (room : ℕ) → OneOf (0 ∷ 10 ∷ []) (emptyReply room .reply)
-unfolding among emptyReply
-empty-number room = picked (λ (w : Written). OneOf (0 ∷ 10 ∷ []) (w .reply)) (eqb room 0) _ _ tt tt
-
-pub empty-keeps : (out : List ℕ) → (emptyReply (length out) .reply ≡ 0 → ⊥) → emptyAfter out ≡ out
-unfolding emptyReply emptyAfter
-empty-keeps [] n = refl
-empty-keeps (x ∷ out) n = absurd (n (rw (ne-eqb (suc (length out)) 0 (λ e. omega arith))))
-
--- ---- the choices: FlagN 0, 8, 9; FlagC 0, 8, 9, 10, 12
-
-pub flag-n-number : (transient : Bool) (norms : List ℕ) → OneOf (0 ∷ 8 ∷ 9 ∷ []) (flagN transient norms .reply)
-unfolding among flagN
-flag-n-number transient norms =
-    picked (λ (c : Choice). OneOf (0 ∷ 8 ∷ 9 ∷ []) (c .reply)) (eqb (normReply transient norms) 0) _ _ tt (norm-among (0 ∷ 8 ∷ 9 ∷ []) tt tt tt transient norms)
-
-abbrev choosing : List ℕ
-choosing = 0 ∷ 8 ∷ 9 ∷ 10 ∷ 12 ∷ []
-
-pub flag-c-number : (r : Record) (codes : List ℕ) → OneOf choosing (flagC r codes .reply)
-unfolding among flagC choiceReply
-flag-c-number r codes =
-    let x = startReply r (length codes) in
-    picked (λ (c : Choice). OneOf choosing (c .reply)) (eqb (choiceReply r codes) 0) _ _ tt
-    (picked (OneOf choosing) (eqb x 0) _ x (picked (OneOf choosing) (fits (map coding (kindsFor (plain r))) (take 800 codes)) done wideCode tt tt)
-    (start-among choosing tt tt tt tt r (length codes)))
-
--- ---- the layout of a record: 0, 7, 8, 9, 10, 12
-
-pub layout-number : (r : Record) (codes : List ℕ) → OneOf (0 ∷ 7 ∷ 8 ∷ 9 ∷ 10 ∷ 12 ∷ []) (layoutOf r codes .reply)
-unfolding among
-layout-number r codes = layout-among (0 ∷ 7 ∷ 8 ∷ 9 ∷ 10 ∷ 12 ∷ []) tt tt tt tt tt tt r codes
-
--- ---- a recording: 0, 2, 3, 4, 5, 6, 7, 11, 15
-
-abbrev checking : List ℕ
-checking = 0 ∷ 2 ∷ 3 ∷ 4 ∷ 5 ∷ 6 ∷ 7 ∷ 11 ∷ 15 ∷ []
-
--- a list that has 0, 2 to 7, 11 and 15 has every number of a check
-two-to-seven : (xs : List ℕ) → OneOf xs 2 → OneOf xs 3 → OneOf xs 4 → OneOf xs 5 → OneOf xs 6 → OneOf xs 7 → (x : ℕ) → 2 ≤ x → x ≤ 7 → OneOf xs x
-two-to-seven xs a b c d e f zero l h = absurd (omega arith)
-two-to-seven xs a b c d e f (suc zero) l h = absurd (omega arith)
-two-to-seven xs a b c d e f (suc (suc zero)) l h = a
-two-to-seven xs a b c d e f (suc (suc (suc zero))) l h = b
-two-to-seven xs a b c d e f (suc (suc (suc (suc zero)))) l h = c
-two-to-seven xs a b c d e f (suc (suc (suc (suc (suc zero))))) l h = d
-two-to-seven xs a b c d e f (suc (suc (suc (suc (suc (suc zero)))))) l h = e
-two-to-seven xs a b c d e f (suc (suc (suc (suc (suc (suc (suc zero))))))) l h = f
-two-to-seven xs a b c d e f (suc (suc (suc (suc (suc (suc (suc (suc x)))))))) l h = absurd (omega arith)
-
-number-one : (xs : List ℕ) → OneOf xs 0 → OneOf xs 2 → OneOf xs 3 → OneOf xs 4 → OneOf xs 5 → OneOf xs 6 → OneOf xs 7 → OneOf xs 11 → OneOf xs 15 → (x : ℕ)
-    → Number x → OneOf xs x
-number-one xs z a b c d e f u m x (inl q) = subst (OneOf xs) (sym q) z
-number-one xs z a b c d e f u m x (inr (inl q)) = two-to-seven xs a b c d e f x (q .0) (q .1)
-number-one xs z a b c d e f u m x (inr (inr (inl q))) = subst (OneOf xs) (sym q) u
-number-one xs z a b c d e f u m x (inr (inr (inr q))) = subst (OneOf xs) (sym q) m
-
--- the walk of a check before its booking: the same numbers but 11
-walk-number : (xs : List ℕ) → OneOf xs 0 → OneOf xs 2 → OneOf xs 3 → OneOf xs 4 → OneOf xs 5 → OneOf xs 6 → OneOf xs 7 → OneOf xs 15
-    → (channels : ℕ) → 1 ≤ channels → (src : List ℕ) → OneOf xs (walkBlocks channels src .reply)
-walk-number xs z a b c d e f m channels h src = go (t .stop)
-  where
-    t : Told (blockStep channels) (Frames channels) mostFrames src (walkBlocks channels src)
-    t = walk-told (block-lawful channels h) mostFrames src
-
-    go : Stop (blockStep channels) mostFrames (t .rest) (walkBlocks channels src) → OneOf xs (walkBlocks channels src .reply)
-    go (ended r q) = subst (OneOf xs) (sym r) z
-    go (passed r q l) = subst (OneOf xs) (sym r) m
-    go (met l k r) = let y = block-lawful channels h .number (t .rest) (walkBlocks channels src .reply) l r in two-to-seven xs a b c d e f _ (y .0) (y .1)
-
-pub check-number : (src : List ℕ) (booking : ℕ) → OneOf checking (checkOf src booking .reply)
-unfolding among
-check-number src booking = number-one checking tt tt tt tt tt tt tt tt tt (checkOf src booking .reply) (check-replies frame-lawful src booking)
-
--- ---- blocks of several channels: reading 0–7, 10, 17; writing 0, 7, 8, 9, 10, 12, 13, 17; the check as of a recording, and 17
-
-pub read-block-number : (src : List ℕ) (channels codes tails : ℕ)
-    → OneOf (0 ∷ 1 ∷ 2 ∷ 3 ∷ 4 ∷ 5 ∷ 6 ∷ 7 ∷ 10 ∷ 17 ∷ []) (blockRead.blockReply src channels codes tails)
-unfolding among
-read-block-number = read-numbers (OneOf (0 ∷ 1 ∷ 2 ∷ 3 ∷ 4 ∷ 5 ∷ 6 ∷ 7 ∷ 10 ∷ 17 ∷ [])) tt tt tt tt tt tt tt tt tt tt
-
-pub read-block-keeps : (reply : ℕ) (src : List ℕ) (channels : ℕ) (codes tails : List ℕ) → (reply ≡ 0 → ⊥)
-    → (blockRead.codesAfter reply src channels codes ≡ codes) × (blockRead.tailsAfter reply src channels tails ≡ tails)
-read-block-keeps reply src channels codes tails n = (rw (ne-eqb reply 0 n), rw (ne-eqb reply 0 n))
-
-pub write-block-number : (r : Records) (channels : ℕ) (codes tails : List ℕ) (room : ℕ)
-    → OneOf (0 ∷ 7 ∷ 8 ∷ 9 ∷ 10 ∷ 12 ∷ 13 ∷ 17 ∷ []) (blockWritten.blockReply r channels codes tails room)
-unfolding among
-write-block-number = write-numbers (OneOf (0 ∷ 7 ∷ 8 ∷ 9 ∷ 10 ∷ 12 ∷ 13 ∷ 17 ∷ [])) tt tt tt tt tt tt tt tt
-
-pub write-block-keeps : (reply : ℕ) (r : Records) (channels : ℕ) (codes tails out : List ℕ) → (reply ≡ 0 → ⊥)
-    → blockWritten.outAfter reply r channels codes tails out ≡ out
-write-block-keeps reply r channels codes tails out n = rw (ne-eqb reply 0 n)
-
--- any other answer than 0 is its number and zeros
-pub read-block-zeros : (reply : ℕ) (src : List ℕ) (channels : ℕ) → (reply ≡ 0 → ⊥) → blockRead.blockAnswer reply src channels ≡ blockRead.noBlock reply
-read-block-zeros reply src channels n = rw (ne-eqb reply 0 n) refl
-
-pub write-block-zeros : (reply : ℕ) (r : Records) (channels : ℕ) (codes tails : List ℕ) → (reply ≡ 0 → ⊥)
-    → blockWritten.blockAnswer reply r channels codes tails ≡ record { reply = reply; next = 0 }
-write-block-zeros reply r channels codes tails n = rw (ne-eqb reply 0 n) refl
-
-abbrev blockChecking : List ℕ
-blockChecking = 0 ∷ 2 ∷ 3 ∷ 4 ∷ 5 ∷ 6 ∷ 7 ∷ 11 ∷ 15 ∷ 17 ∷ []
-
-pub check-blocks-number : (src : List ℕ) (channels booking : ℕ) → OneOf blockChecking (checkAnswer src channels booking .reply)
-unfolding among checkAnswer
-check-blocks-number src channels booking =
-    by-bool (isCount channels)
-    (λ t. rw t (number-one blockChecking tt tt tt tt tt tt tt tt tt (checkBlocks channels src booking .reply)
-    (check-replies (block-lawful channels (counted channels t .0)) src booking)))
-    (λ t. rw t tt)
-
--- ---- a channel taken out, recordings joined: 0, 2 to 7, 10, 15, 17
-
-abbrev copying : List ℕ
-copying = 0 ∷ 2 ∷ 3 ∷ 4 ∷ 5 ∷ 6 ∷ 7 ∷ 10 ∷ 15 ∷ 17 ∷ []
-
-pub extract-number : (src : List ℕ) (channels channel room : ℕ) → OneOf copying (extractAnswer src channels channel room .reply)
-unfolding among extractAnswer
-extract-number src channels channel room =
-    let w = walkBlocks channels src in
-    by-bool (isAmong channels channel)
-    (λ t.
-    rw t
-    (picked (λ (c : Copied). OneOf copying (c .reply)) (eqb (w .reply) 0) _ _
-    (picked (λ (c : Copied). OneOf copying (c .reply)) (ltb room (length (extracted channels channel (w .count) src))) _ _ tt tt)
-    (walk-number copying tt tt tt tt tt tt tt tt channels (among-told channels channel t .0) src)))
-    (λ t. rw t tt)
-
-pub extract-keeps : (src : List ℕ) (channels channel : ℕ) (out : List ℕ) → (extractAnswer src channels channel (length out) .reply ≡ 0 → ⊥)
-    → extractAfter src channels channel out ≡ out
-extract-keeps src channels channel out n = rw (ne-eqb (extractAnswer src channels channel (length out) .reply) 0 n)
-
-refused-number : (src lengths : List ℕ) (n : ℕ) → OneOf copying (refusedIn (ownCheck src lengths) n .reply)
-unfolding among refusedIn
-refused-number src lengths zero = tt
-refused-number src lengths (suc n) =
-    picked (λ (c : Copied). OneOf copying (c .reply)) (eqb (refusedIn (ownCheck src lengths) n .reply) 0) _ _
-    (picked (λ (c : Copied). OneOf copying (c .reply)) (eqb (ownCheck src lengths n .reply) 0) _ _ tt
-    (walk-number copying tt tt tt tt tt tt tt tt 1 (omega arith) (recordingAt src lengths n)))
-    (refused-number src lengths n)
-
-pub join-number : (src lengths : List ℕ) (room : ℕ) → OneOf copying (joinAnswer src lengths room .reply)
-unfolding among joinAnswer checkAll
-join-number src lengths room =
-    let w = ownCheck src lengths in
-    let n = length lengths in
-    picked (λ (c : Copied). OneOf copying (c .reply)) (isCount n) _ _
-    (picked (λ (c : Copied). OneOf copying (c .reply)) (ltb (length src) (startOf lengths n)) _ _ tt
-    (picked (λ (c : Copied). OneOf copying (c .reply)) (eqb (checkAll w n .reply) 0) _ _
-    (picked (λ (c : Copied). OneOf copying (c .reply)) (ltb room (length (joinedOf src lengths))) _ _ tt tt)
-    (picked (λ (c : Copied). OneOf copying (c .reply)) (eqb (refusedIn w n .reply) 0) _ _
-    (picked (λ (c : Copied). OneOf copying (c .reply)) (equalCounts w (w 0 .count) n) _ _ tt tt) (refused-number src lengths n)))) tt
-
-pub join-keeps : (src lengths out : List ℕ) → (joinAnswer src lengths (length out) .reply ≡ 0 → ⊥) → joinAfter src lengths out ≡ out
-join-keeps src lengths out n = rw (ne-eqb (joinAnswer src lengths (length out) .reply) 0 n)
-
--- ---- a listing: 0, 10
-
-pub list-number : (src : List ℕ) (room : ℕ) → OneOf (0 ∷ 10 ∷ []) (listedIn src room .reply)
-unfolding among listedIn
-list-number src room = picked (λ (l : Listing). OneOf (0 ∷ 10 ∷ []) (l .reply)) (ltb room 33030) _ _ tt tt
-
-pub list-keeps : (src out : List ℕ) → length out < 33030 → listed src out ≡ out
-unfolding listed
-list-keeps src out h = rw (lt-ltb (length out) 33030 h)
-
--- ---- the prefix byte: read 0, 1, 2, 3, 14; written 0, 8
-
-pub prefix-number : (p : Prefix) → OneOf (0 ∷ 1 ∷ 2 ∷ 3 ∷ 14 ∷ []) (prefixReading p .reply)
-unfolding among
-prefix-number (Data l) = tt
-prefix-number NoData = tt
-prefix-number NoByte = tt
-prefix-number Marked = tt
-prefix-number Reserved = tt
-
-pub byte-number : (b : Byte) → OneOf (0 ∷ 8 ∷ []) (prefixWriting b .reply)
-unfolding among
-byte-number (Is b) = tt
-byte-number OutOfRange = tt
-
--- ---- a decoded word is a number with its next place (0), or a refusal: 6, 7
-
-abbrev decoding : List ℕ
-decoding = 0 ∷ 6 ∷ 7 ∷ []
-
-abbrev Decodes : Answer ℕ → Type 0
-Decodes a = (at left : ℕ) → OneOf decoding (numberOf (placed at left a))
-
-else-number : (o : Option (List Bool)) (k : ℕ) (g : Answer ℕ) → Decodes g → Decodes (orElse o k g)
-unfolding among
-else-number (some r) k g d = λ at left. tt
-else-number none k g d = d
-
-find-number : (t : List (List Bool)) (k : ℕ) (b : List Bool) → Decodes (find t k b)
-unfolding among find
-find-number [] k b = λ at left. tt
-find-number (w ∷ t) k b = else-number (strip w b) k (find t (suc k) b) (find-number t (suc k) b)
-
-keep-number : (b : Bool) (g : Answer ℕ) → Decodes g → Decodes (keep b g)
-unfolding among
-keep-number true g d = d
-keep-number false g d = λ at left. tt
-
-whole-number : (t : Bool) (n : ℕ) (b : List Bool) → Decodes (whole t n b)
-unfolding among
-whole-number true n b at left = tt
-whole-number false n b at left = tt
-
-below-number : (k : ℕ) (a : Answer ℕ) → Decodes a → Decodes (belowIn k a)
-below-number k (got v r) d = keep-number (ltb v k) (got v r) d
-below-number k (no x) d = d
-
-unword-number : (c : Coding) (b : List Bool) → Decodes (unword c b)
-unfolding unword
-unword-number (fixed n) b = whole-number (leb n (length b)) n b
-unword-number (prefix t u) b = below-number (length t) (find (t ++ u) 0 b) (find-number (t ++ u) 0 b)
-
-pub word-number : (s : List ℕ) (at end kind : ℕ) → OneOf decoding (numberOf (wordAt s at end kind))
-unfolding wordAt
-word-number s at end kind = unword-number (coding kind) (view s at (end - at)) at (end - at)
-
--- and a run of words passes the refusal up with its number
-pub word-passed : (w : Word) → runReply (passedUp w) ≡ numberOf w
-word-passed (At v next) = refl
-word-passed (No x) = refl
-
--- ---- norms, weights, shares and points: 0, 8
-
-abbrev two : List ℕ
-two = 0 ∷ 8 ∷ []
-
-pub legal-number : (transient : Bool) (norms : List ℕ) → OneOf two (legalised transient norms .reply)
-unfolding among legalised
-legal-number transient norms = picked (λ (a : Legal). OneOf two (a .reply)) (inRange norms 44) _ _ tt tt
-
-pub weigh-number : (transient : Bool) (norms : List ℕ) → OneOf two (weighed transient norms .reply)
-unfolding among weighed
-weigh-number transient norms = picked (λ (a : Weights). OneOf two (a .reply)) (inRange norms 44) _ _ tt tt
-
-pub allot-number : (transient wide : Bool) (norms : List ℕ) (budget : ℕ) → OneOf two (sharesOf transient wide norms budget .reply)
-unfolding among sharesOf
-allot-number transient wide norms budget = picked (λ (a : Shares). OneOf two (a .reply)) (inRange norms 44 && leb budget 2560) _ _ tt tt
-
-pub point-number : (rate : ℕ) (index : List ℕ) → OneOf two (pointOf rate index .reply)
-unfolding among pointOf
-point-number rate index = picked (λ (a : Point). OneOf two (a .reply)) (owns rate && below (2 ^ rate) index 8) _ _ tt tt
-
-pub index-number : (rate : ℕ) (point : List ℤ) → OneOf two (indexOf rate point .reply)
-unfolding among indexOf
-index-number rate point =
-    picked (λ (a : Index). OneOf two (a .reply)) (owns rate && agree (Rattle.lattice.specs.Lattice.point (2 ^ rate) (back (2 ^ rate) point)) point 8) _ _ tt tt
-
-pub row-point-number : (rate index : ℕ) → OneOf two (rowPoint rate index .reply)
-unfolding among rowPoint
-row-point-number rate index = picked (λ (a : Point). OneOf two (a .reply)) (eqb rate 1 && ltb index 256) _ _ tt tt
-
-pub row-index-number : (rate : ℕ) (point : List ℤ) → OneOf two (rowIndex rate point .reply)
-unfolding among rowIndex
-row-index-number rate point = picked (λ (a : Row). OneOf two (a .reply)) (eqb rate 1 && ltb (placeOf (eight point) book) 256) _ _ tt tt
-
--- ---- what a refusal leaves in the answer. 01: "all result fields are 0 save the number, for 14 the place, and for the file check its count of sound
--- frames and its place"; "only 0 and 14 give a next place". For each answer what holds on any reply but 0, then that it holds of the call on every input
+use Rattle.promises.specs.OneOf.{OneOf}
+use Rattle.promises.specs.Calls as call
+
+-- ---- "… gives a numbered answer": the numbers of 01's table that each call can answer, and no other
+
+pub record Numbered : Type 0 where
+  pub read-prefix : (src : List ℕ) → OneOf (0 ∷ 1 ∷ 2 ∷ 3 ∷ 14 ∷ []) (call.read-prefix src .reply)
+  pub write-prefix : (mode : ℕ) → OneOf (0 ∷ 8 ∷ []) (call.write-prefix mode .reply)
+  pub read : (src codes tail : List ℕ) → OneOf (0 ∷ 1 ∷ 2 ∷ 3 ∷ 4 ∷ 5 ∷ 6 ∷ 7 ∷ 10 ∷ 14 ∷ []) (call.read src codes tail .answer .reply)
+  pub write : (r : Record) (codes tail out : List ℕ) → OneOf (0 ∷ 7 ∷ 8 ∷ 9 ∷ 10 ∷ 12 ∷ 13 ∷ []) (call.write r codes tail out .answer .reply)
+  pub write-empty : (out : List ℕ) → OneOf (0 ∷ 10 ∷ []) (call.write-empty out .answer .reply)
+  pub layout : (r : Record) (codes : List ℕ) → OneOf (0 ∷ 7 ∷ 8 ∷ 9 ∷ 10 ∷ 12 ∷ []) (call.layout r codes .reply)
+  pub choose-flag-c : (r : Record) (codes : List ℕ) → OneOf (0 ∷ 8 ∷ 9 ∷ 10 ∷ 12 ∷ []) (call.choose-flag-c r codes .reply)
+  pub choose-flag-n : (transient : Bool) (norms : List ℕ) → OneOf (0 ∷ 8 ∷ 9 ∷ []) (call.choose-flag-n transient norms .reply)
+  pub legalise : (transient : Bool) (norms : List ℕ) → OneOf (0 ∷ 8 ∷ []) (call.legalise transient norms .reply)
+  pub weigh : (transient : Bool) (norms : List ℕ) → OneOf (0 ∷ 8 ∷ []) (call.weigh transient norms .reply)
+  pub allot : (transient wide : Bool) (norms : List ℕ) (budget : ℕ) → OneOf (0 ∷ 8 ∷ []) (call.allot transient wide norms budget .reply)
+  pub lattice-point : (rate : ℕ) (index : List ℕ) → OneOf (0 ∷ 8 ∷ []) (call.lattice-point rate index .reply)
+  pub lattice-index : (rate : ℕ) (point : List ℤ) → OneOf (0 ∷ 8 ∷ []) (call.lattice-index rate point .reply)
+  pub codebook-point : (rate index : ℕ) → OneOf (0 ∷ 8 ∷ []) (call.codebook-point rate index .reply)
+  pub codebook-index : (rate : ℕ) (point : List ℤ) → OneOf (0 ∷ 8 ∷ []) (call.codebook-index rate point .reply)
+  pub check : (src : List ℕ) (booking : ℕ) → OneOf (0 ∷ 2 ∷ 3 ∷ 4 ∷ 5 ∷ 6 ∷ 7 ∷ 11 ∷ 15 ∷ []) (call.check src booking .reply)
+  pub list : (src out : List ℕ) → OneOf (0 ∷ 10 ∷ []) (call.list src out .answer .reply)
+  pub check-blocks : (src : List ℕ) (channels booking : ℕ)
+      → OneOf (0 ∷ 2 ∷ 3 ∷ 4 ∷ 5 ∷ 6 ∷ 7 ∷ 11 ∷ 15 ∷ 17 ∷ []) (call.check-blocks src channels booking .reply)
+  pub extract : (src : List ℕ) (channels channel : ℕ) (out : List ℕ)
+      → OneOf (0 ∷ 2 ∷ 3 ∷ 4 ∷ 5 ∷ 6 ∷ 7 ∷ 10 ∷ 15 ∷ 17 ∷ []) (call.extract src channels channel out .answer .reply)
+  pub join : (src lengths out : List ℕ) → OneOf (0 ∷ 2 ∷ 3 ∷ 4 ∷ 5 ∷ 6 ∷ 7 ∷ 10 ∷ 15 ∷ 17 ∷ []) (call.join src lengths out .answer .reply)
+  pub read-block : (src : List ℕ) (channels : ℕ) (codes tails : List ℕ)
+      → OneOf (0 ∷ 1 ∷ 2 ∷ 3 ∷ 4 ∷ 5 ∷ 6 ∷ 7 ∷ 10 ∷ 17 ∷ []) (call.read-block src channels codes tails .answer .reply)
+  pub write-block : (records : Records) (channels : ℕ) (codes tails out : List ℕ)
+      → OneOf (0 ∷ 7 ∷ 8 ∷ 9 ∷ 10 ∷ 12 ∷ 13 ∷ 17 ∷ []) (call.write-block records channels codes tails out .answer .reply)
+  -- "A decoded word is a number with its next place, or a refusal": 6 or 7, and a run of words passes that number up
+  pub word : (s : List ℕ) (at end kind : ℕ) → OneOf (0 ∷ 6 ∷ 7 ∷ []) (numberOf (wordAt s at end kind))
+  pub run : (w : Word) → runReply (passedUp w) ≡ numberOf w
+
+-- ---- "… a refused call leaves lent buffers exactly as they were": every reply but 0, 14 too
+
+abbrev pub Refused : ℕ → Type 0
+Refused reply = reply ≡ done → ⊥
+
+pub record Untouched : Type 0 where
+  pub read : (src codes tail : List ℕ) → let c = call.read src codes tail in Refused (c .answer .reply) → (c .codes ≡ codes) × (c .tail ≡ tail)
+  pub write : (r : Record) (codes tail out : List ℕ) → let c = call.write r codes tail out in Refused (c .answer .reply) → c .out ≡ out
+  pub write-empty : (out : List ℕ) → let c = call.write-empty out in Refused (c .answer .reply) → c .out ≡ out
+  pub list : (src out : List ℕ) → let c = call.list src out in Refused (c .answer .reply) → c .out ≡ out
+  pub extract : (src : List ℕ) (channels channel : ℕ) (out : List ℕ) → let c = call.extract src channels channel out in Refused (c .answer .reply) → c .out ≡ out
+  pub join : (src lengths out : List ℕ) → let c = call.join src lengths out in Refused (c .answer .reply) → c .out ≡ out
+  pub read-block : (src : List ℕ) (channels : ℕ) (codes tails : List ℕ) → let c = call.read-block src channels codes tails in Refused (c .answer .reply)
+      → (c .codes ≡ codes) × (c .tail ≡ tails)
+  pub write-block : (records : Records) (channels : ℕ) (codes tails out : List ℕ) → let c = call.write-block records channels codes tails out in
+      Refused (c .answer .reply) → c .out ≡ out
+
+-- ---- 01: "all result fields are 0 save the number, for 14 the place, and for the file check its count of sound frames and its place"
 
 -- the next place that comes with a number other than 0
 abbrev pub placeOn : ℕ → ℕ
-placeOn reply = cond (eqb reply 14) 1 0
+placeOn reply = cond (eqb reply noData) 1 0
 
--- so only 0 and 14 give a next place
-only-0-and-14 : (reply next : ℕ) → ((reply ≡ 0 → ⊥) → next ≡ placeOn reply) → 0 < next → OneOf (0 ∷ 14 ∷ []) reply
-unfolding among
-only-0-and-14 zero next e h = tt
-only-0-and-14 (suc x) next e h =
-    let q = e (λ z. omega arith) in
-    by-bool (eqb (suc x) 14) (λ t. rw (eqb-true (suc x) 14 t) tt) (λ t. absurd (let z : next ≡ 0 = q ∙ rw t in omega arith))
+pub record Zeros : Type 0 where
+  pub read-prefix : (src : List ℕ) → let a = call.read-prefix src in Refused (a .reply)
+      → a ≡ record { reply = a .reply; field = 0; bytes = 0; next = placeOn (a .reply) }
+  pub write-prefix : (mode : ℕ) → let a = call.write-prefix mode in Refused (a .reply) → a ≡ record { reply = a .reply; byte = 0 }
+  -- noRecord has 0 in each of its fields
+  pub read : (src codes tail : List ℕ) → let a = call.read src codes tail .answer in Refused (a .reply)
+      → a ≡ record { reply = a .reply; next = placeOn (a .reply); «record» = noRecord }
+  pub write : (r : Record) (codes tail out : List ℕ) → let a = call.write r codes tail out .answer in Refused (a .reply) → a ≡ record { reply = a .reply; next = 0 }
+  pub write-empty : (out : List ℕ) → let a = call.write-empty out .answer in Refused (a .reply) → a ≡ record { reply = a .reply; next = 0 }
+  pub layout : (r : Record) (codes : List ℕ) → let a = call.layout r codes in Refused (a .reply)
+      → a ≡ record { reply = a .reply; budget = 0; rates = replicate 44 0; «code_bits» = 0; «tail_bits» = 0 }
+  pub choose-flag-c : (r : Record) (codes : List ℕ) → let a = call.choose-flag-c r codes in Refused (a .reply) → a ≡ record { reply = a .reply; flag = false }
+  pub choose-flag-n : (transient : Bool) (norms : List ℕ) → let a = call.choose-flag-n transient norms in Refused (a .reply)
+      → a ≡ record { reply = a .reply; flag = false }
+  pub legalise : (transient : Bool) (norms : List ℕ) → let a = call.legalise transient norms in Refused (a .reply)
+      → a ≡ record { reply = a .reply; norms = replicate 44 0 }
+  pub weigh : (transient : Bool) (norms : List ℕ) → let a = call.weigh transient norms in Refused (a .reply)
+      → a ≡ record { reply = a .reply; weights = replicate 44 0; scores = replicate 44 (pos 0) }
+  pub allot : (transient wide : Bool) (norms : List ℕ) (budget : ℕ) → let a = call.allot transient wide norms budget in Refused (a .reply)
+      → a ≡ record { reply = a .reply; rates = replicate 44 0; left = 0 }
+  pub lattice-point : (rate : ℕ) (index : List ℕ) → let a = call.lattice-point rate index in Refused (a .reply)
+      → a ≡ record { reply = a .reply; at = replicate 8 (pos 0) }
+  pub lattice-index : (rate : ℕ) (point : List ℤ) → let a = call.lattice-index rate point in Refused (a .reply) → a ≡ record { reply = a .reply; at = replicate 8 0 }
+  pub codebook-point : (rate index : ℕ) → let a = call.codebook-point rate index in Refused (a .reply) → a ≡ record { reply = a .reply; at = replicate 8 (pos 0) }
+  pub codebook-index : (rate : ℕ) (point : List ℤ) → let a = call.codebook-index rate point in Refused (a .reply) → a ≡ record { reply = a .reply; index = 0 }
+  pub list : (src out : List ℕ) → let a = call.list src out .answer in Refused (a .reply) → a ≡ record { reply = a .reply; length = 0 }
+  pub read-block : (src : List ℕ) (channels : ℕ) (codes tails : List ℕ) → let a = call.read-block src channels codes tails .answer in Refused (a .reply)
+      → a ≡ record { reply = a .reply; next = 0; frames = replicate 8 (stoppedAt 0 0) }
+  pub write-block : (records : Records) (channels : ℕ) (codes tails out : List ℕ) → let a = call.write-block records channels codes tails out .answer in
+      Refused (a .reply) → a ≡ record { reply = a .reply; next = 0 }
+  -- the check tells its count and its place whatever its number: the booking does not change them
+  pub check : (src : List ℕ) (booking other : ℕ)
+      → (call.check src booking .count ≡ call.check src other .count) × (call.check src booking .place ≡ call.check src other .place)
 
--- a frame that is read; noRecord has 0 in each of its fields
-abbrev pub ReadingZeros : Reading → Type 0
-ReadingZeros a = (a .reply ≡ 0 → ⊥) → a ≡ record { reply = a .reply; next = placeOn (a .reply); «record» = noRecord }
+-- ---- 01: "Only 0 and 14 give a next place"
 
-pub read-zeros : (src : List ℕ) (codes tail : ℕ) → ReadingZeros (readingOf (readAnswer src codes tail))
-read-zeros =
-    each-reading (λ (o : Outcome). ReadingZeros (readingOf o)) (λ n. refl) (λ n. refl) (λ n. refl) (λ n. refl) (λ n. refl) (λ n. refl) (λ n. refl) (λ n. refl)
-    (λ n. refl) (λ mode x n. absurd (n refl))
+pub record NextPlaces : Type 0 where
+  pub read-prefix : (src : List ℕ) → let a = call.read-prefix src in 0 < a .next → OneOf (0 ∷ 14 ∷ []) (a .reply)
+  pub read : (src codes tail : List ℕ) → let a = call.read src codes tail .answer in 0 < a .next → OneOf (0 ∷ 14 ∷ []) (a .reply)
 
-pub read-place : (src : List ℕ) (codes tail : ℕ) → let a = readingOf (readAnswer src codes tail) in 0 < a .next → OneOf (0 ∷ 14 ∷ []) (a .reply)
-read-place src codes tail = only-0-and-14 _ _ (λ n. ap (λ (a : Reading). a .next) (read-zeros src codes tail n))
-
--- the prefix byte, read
-abbrev pub PrefixZeros : PrefixAnswer → Type 0
-PrefixZeros a = (a .reply ≡ 0 → ⊥) → a ≡ record { reply = a .reply; field = 0; bytes = 0; next = placeOn (a .reply) }
-
-pub prefix-zeros : (src : List ℕ) → PrefixZeros (prefixReading (prefixOf src))
-prefix-zeros src = go (prefixOf src)
-  where
-    go : (p : Prefix) → PrefixZeros (prefixReading p)
-    go (Data l) n = absurd (n refl)
-    go NoData n = refl
-    go NoByte n = refl
-    go Marked n = refl
-    go Reserved n = refl
-
-pub prefix-place : (src : List ℕ) → let a = prefixReading (prefixOf src) in 0 < a .next → OneOf (0 ∷ 14 ∷ []) (a .reply)
-prefix-place src = only-0-and-14 _ _ (λ n. ap (λ (a : PrefixAnswer). a .next) (prefix-zeros src n))
-
--- the prefix byte, written
-abbrev pub ByteZeros : ByteAnswer → Type 0
-ByteZeros a = (a .reply ≡ 0 → ⊥) → a ≡ record { reply = a .reply; byte = 0 }
-
-pub byte-zeros : (mode : ℕ) → ByteZeros (prefixWriting (byteOf mode))
-byte-zeros mode = go (byteOf mode)
-  where
-    go : (b : Byte) → ByteZeros (prefixWriting b)
-    go (Is b) n = absurd (n refl)
-    go OutOfRange n = refl
-
--- a frame that is written, and an empty one: no place but with 0
-abbrev pub WritingZeros : Written → Type 0
-WritingZeros a = (a .reply ≡ 0 → ⊥) → a ≡ record { reply = a .reply; next = 0 }
-
-pub write-zeros : (r : Record) (codes tail : List ℕ) (room : ℕ) → WritingZeros (writingOf (writeReply r codes tail room) (r .mode))
-write-zeros r codes tail room = picked WritingZeros (eqb (writeReply r codes tail room) 0) _ _ (λ n. absurd (n refl)) (λ n. refl)
-
-pub empty-zeros : (room : ℕ) → WritingZeros (emptyReply room)
-unfolding emptyReply
-empty-zeros room = picked WritingZeros (eqb room 0) _ _ (λ n. refl) (λ n. absurd (n refl))
-
--- the choices of FlagN and FlagC: no flag but with 0
-abbrev pub ChoiceZeros : Choice → Type 0
-ChoiceZeros a = (a .reply ≡ 0 → ⊥) → a ≡ record { reply = a .reply; flag = false }
-
-pub flag-n-zeros : (transient : Bool) (norms : List ℕ) → ChoiceZeros (flagN transient norms)
-unfolding flagN
-flag-n-zeros transient norms = picked ChoiceZeros (eqb (normReply transient norms) 0) _ _ (λ n. absurd (n refl)) (λ n. refl)
-
-pub flag-c-zeros : (r : Record) (codes : List ℕ) → ChoiceZeros (flagC r codes)
-unfolding flagC
-flag-c-zeros r codes = picked ChoiceZeros (eqb (choiceReply r codes) 0) _ _ (λ n. absurd (n refl)) (λ n. refl)
-
--- the layout of a record
-abbrev pub PartsZeros : Parts → Type 0
-PartsZeros a = (a .reply ≡ 0 → ⊥) → a ≡ record { reply = a .reply; budget = 0; rates = replicate 44 0; «code_bits» = 0; «tail_bits» = 0 }
-
-pub layout-zeros : (r : Record) (codes : List ℕ) → PartsZeros (layoutOf r codes)
-unfolding layoutOf partsIn
-layout-zeros r codes =
-    let ks = kindsFor r in
-    let vs = take 800 codes in
-    picked PartsZeros (eqb (startReply r (length codes)) 0) _ _
-    (picked PartsZeros (fits (map coding ks) vs) _ _ (picked PartsZeros (ltb (budgetFor r) (codesLong ks vs)) _ _ (λ n. refl) (λ n. absurd (n refl)))
-    (λ n. refl))
-    (λ n. refl)
-
--- legal norms
-abbrev pub LegalZeros : Legal → Type 0
-LegalZeros a = (a .reply ≡ 0 → ⊥) → a ≡ record { reply = a .reply; norms = replicate 44 0 }
-
-pub legal-zeros : (transient : Bool) (norms : List ℕ) → LegalZeros (legalised transient norms)
-unfolding legalised
-legal-zeros transient norms = picked LegalZeros (inRange norms 44) _ _ (λ n. absurd (n refl)) (λ n. refl)
-
--- weights and scores
-abbrev pub WeightsZeros : Weights → Type 0
-WeightsZeros a = (a .reply ≡ 0 → ⊥) → a ≡ record { reply = a .reply; weights = replicate 44 0; scores = replicate 44 (pos 0) }
-
-pub weigh-zeros : (transient : Bool) (norms : List ℕ) → WeightsZeros (weighed transient norms)
-unfolding weighed
-weigh-zeros transient norms = picked WeightsZeros (inRange norms 44) _ _ (λ n. absurd (n refl)) (λ n. refl)
-
--- rates and bits left
-abbrev pub SharesZeros : Shares → Type 0
-SharesZeros a = (a .reply ≡ 0 → ⊥) → a ≡ record { reply = a .reply; rates = replicate 44 0; left = 0 }
-
-pub allot-zeros : (transient wide : Bool) (norms : List ℕ) (budget : ℕ) → SharesZeros (sharesOf transient wide norms budget)
-unfolding sharesOf
-allot-zeros transient wide norms budget = picked SharesZeros (inRange norms 44 && leb budget 2560) _ _ (λ n. absurd (n refl)) (λ n. refl)
-
--- a point, at rates 2 to 9 and at rate 1
-abbrev pub PointZeros : Point → Type 0
-PointZeros a = (a .reply ≡ 0 → ⊥) → a ≡ record { reply = a .reply; at = replicate 8 (pos 0) }
-
-pub point-zeros : (rate : ℕ) (index : List ℕ) → PointZeros (pointOf rate index)
-unfolding pointOf from
-point-zeros rate index = picked PointZeros (owns rate && below (2 ^ rate) index 8) _ _ (λ n. absurd (n refl)) (λ n. refl)
-
-pub row-point-zeros : (rate index : ℕ) → PointZeros (rowPoint rate index)
-unfolding rowPoint from
-row-point-zeros rate index = picked PointZeros (eqb rate 1 && ltb index 256) _ _ (λ n. absurd (n refl)) (λ n. refl)
-
--- an index at rates 2 to 9
-abbrev pub IndexZeros : Index → Type 0
-IndexZeros a = (a .reply ≡ 0 → ⊥) → a ≡ record { reply = a .reply; at = replicate 8 0 }
-
-pub index-zeros : (rate : ℕ) (point : List ℤ) → IndexZeros (indexOf rate point)
-unfolding indexOf from
-index-zeros rate point =
-    let r = 2 ^ rate in
-    picked IndexZeros (owns rate && agree (Rattle.lattice.specs.Lattice.point r (back r point)) point 8) _ _ (λ n. absurd (n refl)) (λ n. refl)
-
--- an index at rate 1
-abbrev pub RowZeros : Row → Type 0
-RowZeros a = (a .reply ≡ 0 → ⊥) → a ≡ record { reply = a .reply; index = 0 }
-
-pub row-index-zeros : (rate : ℕ) (point : List ℤ) → RowZeros (rowIndex rate point)
-unfolding rowIndex
-row-index-zeros rate point = picked RowZeros (eqb rate 1 && ltb (placeOf (eight point) book) 256) _ _ (λ n. absurd (n refl)) (λ n. refl)
-
--- a listing
-abbrev pub ListingZeros : Listing → Type 0
-ListingZeros a = (a .reply ≡ 0 → ⊥) → a ≡ record { reply = a .reply; length = 0 }
-
-pub list-zeros : (src : List ℕ) (room : ℕ) → ListingZeros (listedIn src room)
-unfolding listedIn
-list-zeros src room = picked ListingZeros (ltb room 33030) _ _ (λ n. refl) (λ n. absurd (n refl))
-
--- the file check keeps its count and its place on every reply: they are the walk's, whatever the booking
-pub check-keeps : (src : List ℕ) (booking : ℕ)
-    → (checkOf src booking .count ≡ walk mostFrames src .count) × (checkOf src booking .place ≡ walk mostFrames src .place)
-unfolding checkOver booked
-check-keeps src booking =
-    let w = walk mostFrames src in
-    picked (λ (c : Check). (c .count ≡ w .count) × (c .place ≡ w .place)) (eqb (w .reply) 0) _ _
-    (picked (λ (c : Check). (c .count ≡ w .count) × (c .place ≡ w .place)) (eqb (w .count) booking) _ _ (refl, refl) (refl, refl)) (refl, refl)
+pub record Demand1 : Type 0 where
+  pub numbered : Numbered
+  pub untouched : Untouched
+  pub zeros : Zeros
+  pub places : NextPlaces

@@ -1,9 +1,9 @@
-pub mod Numbers
-pub mod Reads
+pub mod OneOf
+pub mod Calls
+pub mod Contracts
 pub mod Demand1
 pub mod Demand2
-pub mod Unique
 pub mod Demand3
 pub mod Recordings
-pub mod Stars
 pub mod Channels
+pub mod Stars

@@ -44,7 +44,7 @@ use Rattle.recording.specs.Frames.{Stored, bare, full, Frames}
 use Rattle.recording.proofs.Laws.Frames.{stored-front, bare-says}
 use Rattle.recording.specs.Blocks.{blockStep, passingOf}
 use Rattle.recording.proofs.Laws.Blocks.{block-front, block-told, block-stops}
-use Rattle.frames.specs.Places.{sizeAt, placeOf, frameAt}
+use Rattle.frames.specs.Places.{sizeAt, placeOf, frameAt, zeroed}
 use Rattle.frames.proofs.Laws.Frames.{placed, frame-stored, frame-in, frames-made, frames-back}
 use Rattle.layout.specs.Parts.{firstOf, total}
 use Rattle.writer.specs.Empty.{emptyAfter}
@@ -58,6 +58,7 @@ use Rattle.writer.proofs.Laws.ReadBack as readback
 use Rattle.frames.specs.Rooms.{roomReply}
 use Rattle.block_reader.specs.Reading as reading
 use Rattle.block_reader.specs.Reading.{channelAt, blockOf, codesOf, tailsOf}
+use Rattle.block_writer.specs.ReadBack.{readAgain, readingBack, codesBack, tailsBack}
 use Rattle.block_writer.specs.Writing as writing
 use Rattle.block_writer.specs.Writing.{pastRecords, recordAt, emptyAt, frameReply, frameOf, replyAt, bytesAt, framesReply, blockBytes}
 use Rattle.block_reader.specs.declared.Block.{Block}
@@ -131,11 +132,6 @@ module _ (f : List ℕ) (a : Stored f) where
           ∙ omega (arith, length-bytes 320 (b ++ replicate (2560 - length b) false), length-drop 320 ts)
 
 -- ---- A frame that was read into its parts is written back
-
--- a frame with R zero in its prefix byte
-abbrev pub zeroed : List ℕ → List ℕ
-zeroed [] = []
-zeroed (b ∷ f) = zeroR b ∷ f
 
 -- what is written has no cause of refusal, and is the frame with R zero
 abbrev Returns : List ℕ → Record → Bool → List ℕ → List ℕ → Type 0
@@ -345,11 +341,6 @@ module _ (s : List ℕ) (n : ℕ) (codes tails : List ℕ) (b : Bytes s) (z : re
 
 -- ---- A frame that was written is read back
 
--- what it reads as: an empty one has no record
-abbrev pub readAgain : Record → Bool → Reading
-readAgain r true = stoppedAt noData 1
-readAgain r false = record { reply = done; next = modeBytes (r .mode) + 1; «record» = r }
-
 -- it is a stored frame; it reads as its record, and the lent parts then hold its codes and its tail, or for an empty frame what they held
 record Reads (r : Record) (w : Bool) (cs ts codes tail : List ℕ) : Type 0 where
   stored : Stored (frameOf r w cs ts)
@@ -398,17 +389,6 @@ module _ (r : Record) (cs ts codes tail : List ℕ) (lc : length cs ≡ 800) (lt
   frame-reads false z h = full-reads z (h refl .0) (h refl .1)
 
 -- ---- Records that were written are read back
-
--- what channel c reads as
-abbrev pub readingBack : Records → ℕ → Reading
-readingBack r c = readAgain (recordAt r c) (emptyAt r c)
-
--- what the lent numbers and bytes then hold: those of each frame with data, and for an empty frame what they held
-abbrev pub codesBack : Records → ℕ → List ℕ → List ℕ → List ℕ
-codesBack r n cs l = runs n (λ c. cond (emptyAt r c) (part 800 l c) (part 800 cs c)) ++ drop (n * 800) l
-
-abbrev pub tailsBack : Records → ℕ → List ℕ → List ℕ → List ℕ
-tailsBack r n ts l = runs n (λ c. cond (emptyAt r c) (part 320 l c) (part 320 ts c)) ++ drop (n * 320) l
 
 -- the output of a block that was written, read: reply 0, the place behind the block, and the records, codes and tails that it was written from
 pub record ReadBack (r : Records) (n : ℕ) (cs ts out codes tails : List ℕ) : Type 0 where

@@ -19,7 +19,7 @@ use Rattle.recording.specs.declared.answer.Check.{Check}
 use Rattle.recording.proofs.Laws.Blocks.{counted, is-counted}
 use Rattle.frames.specs.Places.{placeOf}
 use Rattle.frames.proofs.Laws.Frames.{placed-all}
-use Rattle.joining.specs.Joining.{startOf, recordingAt, ownCheck, joined, joinedOf, firstCopy, refusedIn, equalCounts, checkAll, joinAnswer, Lying}
+use Rattle.joining.specs.Joining.{startOf, recordingAt, ownCheck, joined, joinedOf, firstCopy, refusedIn, equalCounts, checkAll, joinAnswer, Lying, Joinable}
 use Rattle.channels.specs.Copies.{madeCopy, refusedCopy, stoppedCopy}
 use Rattle.channels.proofs.Laws.Walks.{own-frames, own-made}
 use Rattle.joining.proofs.Laws.Joining.{length-recording, length-joined, checked-common, joined-few}
@@ -48,14 +48,6 @@ counts-made w k zero h = refl
 counts-made w k (suc n) h = rw (eq-eqb (w n .count) k (h n (omega arith))) (counts-made w k n (λ c b. h c (omega arith)))
 
 -- ---- the join
-
--- 1 to 8 sound recordings of k frames each, one behind the other in the source
-pub record Joinable (src lengths : List ℕ) (k : ℕ) : Type 0 where
-  pub some : 1 ≤ length lengths
-  pub most : length lengths ≤ 8
-  pub inside : startOf lengths (length lengths) ≤ length src
-  pub few : k ≤ mostFrames
-  pub sound : (c : ℕ) → c < length lengths → Frames k (recordingAt src lengths c)
 
 module _ (src lengths : List ℕ) (room : ℕ) where
   pub record Done : Type 0 where

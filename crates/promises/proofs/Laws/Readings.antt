@@ -15,7 +15,7 @@ use Rattle.prefix.specs.declared.Prefix.{Prefix}
 use Rattle.prefix.specs.declared.Prefix.the-variants.{Data, NoData, NoByte, Marked, Reserved}
 use Rattle.frame.specs.Layout.{Frame, frame}
 use Rattle.frame.specs.Answers.{Outcome, refused, empty, sound, outcome, readBody, bodyOf, started, readAnswer}
-use Rattle.promises.specs.Numbers.{picked}
+use Rattle.promises.proofs.Laws.Picked.{picked}
 
 -- what holds for each of them holds for whatever is read
 module _ (P : Outcome → Type 0) (p1 : P (refused noByte)) (p2 : P (refused marked)) (p3 : P (refused reserved)) (p4 : P (refused cut))

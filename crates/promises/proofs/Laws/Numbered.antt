@@ -1,0 +1,412 @@
+-- The numbers that each call can answer.
+-- Assumes nothing.
+use mathlib.Core.Path.{_≡_, refl, sym, ap, subst, _∙_}
+use mathlib.Core.Bool.{Bool, true, false, cond, _&&_}
+use mathlib.Core.List.{List, [], _∷_, _++_, map}
+use mathlib.Core.Logic.{inl, inr}
+use mathlib.Core.Option.{Option, some, none}
+use Prim.Native.Nat.{ℕ, zero, suc, _+_, _-_, _^_, _≤_, _<_}
+use native.Mathlib.Omega.{arith}
+use lib.Dec.{eqb, ltb, leb}
+use lib.IntN.{ℤ, pos}
+use lib.ListN.{length, getD, take, replicate}
+use borrow.Author.Tests.{ne-eqb, lt-ltb, eqb-true}
+use Rattle.ground.specs.Cases.{by-bool}
+use Rattle.ground.specs.Fills.{from}
+use Rattle.ground.specs.Indices.{inRange}
+use Rattle.ground.specs.Replies.{done, outOfRange, farApart, shortRoom, wideCode, pastBudget, wrongTail}
+use Rattle.bits.specs.Bits.{view}
+use Rattle.bits.specs.Codings.{Coding, fixed, prefix, Answer, got, no, orElse, find, strip, keep, below as belowIn, whole, unword}
+use Rattle.words.specs.Tables.{coding}
+use Rattle.words.specs.Answers.{placed, wordAt, numberOf}
+use Rattle.runs.specs.Runs.{passedUp, runReply}
+use Rattle.words.specs.declared.Word.{Word}
+use Rattle.words.specs.declared.Word.the-variants.{At, No}
+use Rattle.prefix.specs.Sizes.{modeBytes}
+use Rattle.prefix.specs.Prefix.{prefixOf, byteOf, readingOf as prefixReading, writingOf as prefixWriting, Reading as PrefixAnswer, Writing as ByteAnswer}
+use Rattle.prefix.specs.declared.Prefix.{Prefix}
+use Rattle.prefix.specs.declared.Prefix.the-variants.{Data, NoData, NoByte, Marked, Reserved}
+use Rattle.prefix.specs.declared.Byte.{Byte}
+use Rattle.prefix.specs.declared.Byte.the-variants.{Is, OutOfRange}
+use Rattle.order.specs.Order.{sent}
+use Rattle.norms.specs.Steps.{stepsClose}
+use Rattle.norms.specs.Answers.{normReply, choiceOf as flagN}
+use Rattle.legal.specs.Answers.{legalised}
+use Rattle.norms.specs.declared.Choice.{Choice}
+use Rattle.legal.specs.declared.Legal.{Legal}
+use Rattle.weights.specs.Weights.{weighed}
+use Rattle.weights.specs.declared.Weights.{Weights}
+use Rattle.allotment.specs.Allotment.{sharesOf}
+use Rattle.allotment.specs.declared.Shares.{Shares}
+use Rattle.lattice.specs.Lattice.{back}
+use Rattle.points.specs.Answers.{owns, below, agree, pointOf, indexOf}
+use Rattle.points.specs.declared.Point.{Point}
+use Rattle.points.specs.declared.Index.{Index}
+use Rattle.codebook.specs.Codebook.{eight, book, placeOf, rowPoint, rowIndex}
+use Rattle.codebook.specs.declared.Row.{Row}
+use Rattle.frame.specs.Answers.{Outcome, refused, empty, sound, readAnswer, noRecord, readingOf, codesAfter, tailAfter}
+use Rattle.frame.specs.declared.Reading.{Reading}
+use Rattle.frame.specs.declared.Record.{Record}
+use Rattle.writer.specs.Tests.{quietOf}
+use Rattle.layout.specs.Fits.{fits}
+use Rattle.tails.specs.Tails.{clear}
+use Rattle.writer.specs.Empty.{emptyReply, emptyAfter}
+use Rattle.layout.specs.Parts.{kindsFor, budgetFor, codesLong, startReply, partsIn, layoutOf}
+use Rattle.writer.specs.Writes.{roomReply, tailReply, writeReply, outAfter, writingOf}
+use Rattle.choice.specs.Choice.{plain, choiceReply, choiceOf as flagC}
+use Rattle.layout.specs.declared.Parts.{Parts}
+use Rattle.writer.specs.declared.Writing.{Writing as Written}
+use Rattle.listing.specs.Listing.{listedIn, outAfter as listed}
+use Rattle.listing.specs.declared.Listing.{Listing}
+use Rattle.recording.specs.Walk.{walk, booked, mostFrames, checkOver, checkOf}
+use Rattle.recording.specs.declared.answer.Check.{Check}
+use Rattle.recording.specs.Checked.{Number}
+use Rattle.recording.proofs.Laws.Checked.{check-replies}
+use Rattle.recording.specs.Frames.{Frames}
+use Rattle.recording.proofs.Laws.Frames.{frame-lawful}
+use Rattle.recording.proofs.Laws.Units.{Told, Stop, ended, passed, met, walk-told}
+use Rattle.recording.specs.Blocks.{isCount, blockStep, walkBlocks, checkBlocks}
+use Rattle.recording.proofs.Laws.Blocks.{block-lawful, counted}
+use Rattle.block_reader.specs.Reading as blockRead
+use Rattle.block_reader.specs.declared.Block.{Block}
+use Rattle.block_writer.specs.Writing as blockWritten
+use Rattle.block_writer.specs.declared.Records.{Records}
+use Rattle.block_writer.proofs.Laws.ReplyNumbers.{read-numbers, write-numbers}
+use Rattle.channels.specs.Copies.{checkAnswer, extracted, isAmong, extractAnswer, extractAfter, copiedTo}
+use Rattle.joining.specs.Joining.{startOf, recordingAt, ownCheck, refusedIn, equalCounts, checkAll, joinedOf, joinAnswer, joinAfter}
+use Rattle.channels.specs.declared.Copied.{Copied}
+use Rattle.channels.proofs.Laws.Extracting.{among-told}
+use Rattle.promises.specs.OneOf.{among, OneOf}
+use Rattle.promises.proofs.Laws.Readings.{each-reading}
+use Rattle.promises.proofs.Laws.Picked.{picked}
+use Rattle.promises.specs.Demand1.{Numbered}
+
+-- ---- reading a frame: 0, 1, 2, 3, 4, 5, 6, 7, 10, 14
+
+abbrev reading : List ℕ
+reading = 0 ∷ 1 ∷ 2 ∷ 3 ∷ 4 ∷ 5 ∷ 6 ∷ 7 ∷ 10 ∷ 14 ∷ []
+
+abbrev Reads : Outcome → Type 0
+Reads o = OneOf reading (readingOf o .reply)
+
+pub read-number : (src : List ℕ) (codes tail : ℕ) → OneOf reading (readingOf (readAnswer src codes tail) .reply)
+unfolding among
+read-number = each-reading Reads tt tt tt tt tt tt tt tt tt (λ mode x. tt)
+
+-- ---- writing a frame: 0, 7, 8, 9, 10, 12, 13
+
+abbrev writing : List ℕ
+writing = 0 ∷ 7 ∷ 8 ∷ 9 ∷ 10 ∷ 12 ∷ 13 ∷ []
+
+-- what the norms say: 0, 8, 9
+norm-among : (xs : List ℕ) → OneOf xs 0 → OneOf xs 8 → OneOf xs 9 → (transient : Bool) (norms : List ℕ) → OneOf xs (normReply transient norms)
+unfolding normReply
+norm-among xs z e n transient norms =
+    picked (OneOf xs) (inRange norms 44 && leb (getD norms 0 0) 31) (cond (stepsClose (sent transient norms)) done farApart) outOfRange
+    (picked (OneOf xs) (stepsClose (sent transient norms)) done farApart z n) e
+
+room-number : (r : Record) (codes tail room : ℕ) → OneOf writing (roomReply r codes tail room)
+unfolding among roomReply
+room-number r codes tail room =
+    picked (OneOf writing) (ltb 19 (r .mode)) outOfRange _ tt
+    (picked (OneOf writing) (ltb codes 800) shortRoom _ tt
+    (picked (OneOf writing) (ltb tail 320) shortRoom _ tt
+    (picked (OneOf writing) (ltb room (modeBytes (r .mode) + 1)) shortRoom _ tt
+    (picked (OneOf writing) (quietOf (r .transient) (r .noise)) done outOfRange tt tt))))
+
+-- how a record starts: 0, 8, 9, 10
+start-among : (xs : List ℕ) → OneOf xs 0 → OneOf xs 8 → OneOf xs 9 → OneOf xs 10 → (r : Record) (codes : ℕ) → OneOf xs (startReply r codes)
+unfolding startReply
+start-among xs z e n t r codes =
+    picked (OneOf xs) (ltb 19 (r .mode)) outOfRange _ e (picked (OneOf xs) (ltb codes 800) shortRoom _ t (norm-among xs z e n (r .transient) (r .norms)))
+
+-- how it is laid out: 7 and 12 too
+layout-among : (xs : List ℕ) → OneOf xs 0 → OneOf xs 7 → OneOf xs 8 → OneOf xs 9 → OneOf xs 10 → OneOf xs 12 → (r : Record) (codes : List ℕ)
+    → OneOf xs (layoutOf r codes .reply)
+unfolding layoutOf partsIn
+layout-among xs z s e n t w r codes =
+    let ks = kindsFor r in
+    let vs = take 800 codes in
+    let x = startReply r (length codes) in
+    picked (λ (p : Parts). OneOf xs (p .reply)) (eqb x 0) _ _
+    (picked (λ (p : Parts). OneOf xs (p .reply)) (fits (map coding ks) vs) _ _
+    (picked (λ (p : Parts). OneOf xs (p .reply)) (ltb (budgetFor r) (codesLong ks vs)) _ _ s z) w)
+    (start-among xs z e n t r (length codes))
+
+tail-number : (ts : List ℕ) (left count : ℕ) → OneOf writing (tailReply ts left count)
+unfolding among tailReply
+tail-number ts left count =
+    picked (OneOf writing) (eqb count left) _ wrongTail (picked (OneOf writing) (clear (view ts count (2560 - count))) done wrongTail tt tt) tt
+
+pub write-number : (r : Record) (codes tail : List ℕ) (room : ℕ) → OneOf writing (writeReply r codes tail room)
+unfolding among writeReply
+write-number r codes tail room =
+    let p = layoutOf r codes in
+    picked (OneOf writing) (eqb (roomReply r (length codes) (length tail) room) 0) _ _
+    (picked (OneOf writing) (eqb (p .reply) 0) _ _ (tail-number tail (p .«tail_bits») (r .«tail_bits»)) (layout-among writing tt tt tt tt tt tt r codes))
+    (room-number r (length codes) (length tail) room)
+
+-- ---- an empty frame: 0, 10
+
+pub empty-number : (room : ℕ) → OneOf (0 ∷ 10 ∷ []) (emptyReply room .reply)
+unfolding among emptyReply
+empty-number room = picked (λ (w : Written). OneOf (0 ∷ 10 ∷ []) (w .reply)) (eqb room 0) _ _ tt tt
+
+-- ---- the choices: FlagN 0, 8, 9; FlagC 0, 8, 9, 10, 12
+
+pub flag-n-number : (transient : Bool) (norms : List ℕ) → OneOf (0 ∷ 8 ∷ 9 ∷ []) (flagN transient norms .reply)
+unfolding among flagN
+flag-n-number transient norms =
+    picked (λ (c : Choice). OneOf (0 ∷ 8 ∷ 9 ∷ []) (c .reply)) (eqb (normReply transient norms) 0) _ _ tt (norm-among (0 ∷ 8 ∷ 9 ∷ []) tt tt tt transient norms)
+
+abbrev choosing : List ℕ
+choosing = 0 ∷ 8 ∷ 9 ∷ 10 ∷ 12 ∷ []
+
+pub flag-c-number : (r : Record) (codes : List ℕ) → OneOf choosing (flagC r codes .reply)
+unfolding among flagC choiceReply
+flag-c-number r codes =
+    let x = startReply r (length codes) in
+    picked (λ (c : Choice). OneOf choosing (c .reply)) (eqb (choiceReply r codes) 0) _ _ tt
+    (picked (OneOf choosing) (eqb x 0) _ x (picked (OneOf choosing) (fits (map coding (kindsFor (plain r))) (take 800 codes)) done wideCode tt tt)
+    (start-among choosing tt tt tt tt r (length codes)))
+
+-- ---- the layout of a record: 0, 7, 8, 9, 10, 12
+
+pub layout-number : (r : Record) (codes : List ℕ) → OneOf (0 ∷ 7 ∷ 8 ∷ 9 ∷ 10 ∷ 12 ∷ []) (layoutOf r codes .reply)
+unfolding among
+layout-number r codes = layout-among (0 ∷ 7 ∷ 8 ∷ 9 ∷ 10 ∷ 12 ∷ []) tt tt tt tt tt tt r codes
+
+-- ---- a recording: 0, 2, 3, 4, 5, 6, 7, 11, 15
+
+abbrev checking : List ℕ
+checking = 0 ∷ 2 ∷ 3 ∷ 4 ∷ 5 ∷ 6 ∷ 7 ∷ 11 ∷ 15 ∷ []
+
+-- a list that has 0, 2 to 7, 11 and 15 has every number of a check
+two-to-seven : (xs : List ℕ) → OneOf xs 2 → OneOf xs 3 → OneOf xs 4 → OneOf xs 5 → OneOf xs 6 → OneOf xs 7 → (x : ℕ) → 2 ≤ x → x ≤ 7 → OneOf xs x
+two-to-seven xs a b c d e f zero l h = absurd (omega arith)
+two-to-seven xs a b c d e f (suc zero) l h = absurd (omega arith)
+two-to-seven xs a b c d e f (suc (suc zero)) l h = a
+two-to-seven xs a b c d e f (suc (suc (suc zero))) l h = b
+two-to-seven xs a b c d e f (suc (suc (suc (suc zero)))) l h = c
+two-to-seven xs a b c d e f (suc (suc (suc (suc (suc zero))))) l h = d
+two-to-seven xs a b c d e f (suc (suc (suc (suc (suc (suc zero)))))) l h = e
+two-to-seven xs a b c d e f (suc (suc (suc (suc (suc (suc (suc zero))))))) l h = f
+two-to-seven xs a b c d e f (suc (suc (suc (suc (suc (suc (suc (suc x)))))))) l h = absurd (omega arith)
+
+number-one : (xs : List ℕ) → OneOf xs 0 → OneOf xs 2 → OneOf xs 3 → OneOf xs 4 → OneOf xs 5 → OneOf xs 6 → OneOf xs 7 → OneOf xs 11 → OneOf xs 15 → (x : ℕ)
+    → Number x → OneOf xs x
+number-one xs z a b c d e f u m x (inl q) = subst (OneOf xs) (sym q) z
+number-one xs z a b c d e f u m x (inr (inl q)) = two-to-seven xs a b c d e f x (q .0) (q .1)
+number-one xs z a b c d e f u m x (inr (inr (inl q))) = subst (OneOf xs) (sym q) u
+number-one xs z a b c d e f u m x (inr (inr (inr q))) = subst (OneOf xs) (sym q) m
+
+-- the walk of a check before its booking: the same numbers but 11
+walk-number : (xs : List ℕ) → OneOf xs 0 → OneOf xs 2 → OneOf xs 3 → OneOf xs 4 → OneOf xs 5 → OneOf xs 6 → OneOf xs 7 → OneOf xs 15
+    → (channels : ℕ) → 1 ≤ channels → (src : List ℕ) → OneOf xs (walkBlocks channels src .reply)
+walk-number xs z a b c d e f m channels h src = go (t .stop)
+  where
+    t : Told (blockStep channels) (Frames channels) mostFrames src (walkBlocks channels src)
+    t = walk-told (block-lawful channels h) mostFrames src
+
+    go : Stop (blockStep channels) mostFrames (t .rest) (walkBlocks channels src) → OneOf xs (walkBlocks channels src .reply)
+    go (ended r q) = subst (OneOf xs) (sym r) z
+    go (passed r q l) = subst (OneOf xs) (sym r) m
+    go (met l k r) = let y = block-lawful channels h .number (t .rest) (walkBlocks channels src .reply) l r in two-to-seven xs a b c d e f _ (y .0) (y .1)
+
+pub check-number : (src : List ℕ) (booking : ℕ) → OneOf checking (checkOf src booking .reply)
+unfolding among
+check-number src booking = number-one checking tt tt tt tt tt tt tt tt tt (checkOf src booking .reply) (check-replies frame-lawful src booking)
+
+-- ---- blocks of several channels: reading 0–7, 10, 17; writing 0, 7, 8, 9, 10, 12, 13, 17; the check as of a recording, and 17
+
+pub read-block-number : (src : List ℕ) (channels codes tails : ℕ)
+    → OneOf (0 ∷ 1 ∷ 2 ∷ 3 ∷ 4 ∷ 5 ∷ 6 ∷ 7 ∷ 10 ∷ 17 ∷ []) (blockRead.blockReply src channels codes tails)
+unfolding among
+read-block-number = read-numbers (OneOf (0 ∷ 1 ∷ 2 ∷ 3 ∷ 4 ∷ 5 ∷ 6 ∷ 7 ∷ 10 ∷ 17 ∷ [])) tt tt tt tt tt tt tt tt tt tt
+
+pub write-block-number : (r : Records) (channels : ℕ) (codes tails : List ℕ) (room : ℕ)
+    → OneOf (0 ∷ 7 ∷ 8 ∷ 9 ∷ 10 ∷ 12 ∷ 13 ∷ 17 ∷ []) (blockWritten.blockReply r channels codes tails room)
+unfolding among
+write-block-number = write-numbers (OneOf (0 ∷ 7 ∷ 8 ∷ 9 ∷ 10 ∷ 12 ∷ 13 ∷ 17 ∷ [])) tt tt tt tt tt tt tt tt
+
+abbrev blockChecking : List ℕ
+blockChecking = 0 ∷ 2 ∷ 3 ∷ 4 ∷ 5 ∷ 6 ∷ 7 ∷ 11 ∷ 15 ∷ 17 ∷ []
+
+pub check-blocks-number : (src : List ℕ) (channels booking : ℕ) → OneOf blockChecking (checkAnswer src channels booking .reply)
+unfolding among checkAnswer
+check-blocks-number src channels booking =
+    by-bool (isCount channels)
+    (λ t. rw t (number-one blockChecking tt tt tt tt tt tt tt tt tt (checkBlocks channels src booking .reply)
+    (check-replies (block-lawful channels (counted channels t .0)) src booking)))
+    (λ t. rw t tt)
+
+-- ---- a channel taken out, recordings joined: 0, 2 to 7, 10, 15, 17
+
+abbrev copying : List ℕ
+copying = 0 ∷ 2 ∷ 3 ∷ 4 ∷ 5 ∷ 6 ∷ 7 ∷ 10 ∷ 15 ∷ 17 ∷ []
+
+pub extract-number : (src : List ℕ) (channels channel room : ℕ) → OneOf copying (extractAnswer src channels channel room .reply)
+unfolding among extractAnswer
+extract-number src channels channel room =
+    let w = walkBlocks channels src in
+    by-bool (isAmong channels channel)
+    (λ t.
+    rw t
+    (picked (λ (c : Copied). OneOf copying (c .reply)) (eqb (w .reply) 0) _ _
+    (picked (λ (c : Copied). OneOf copying (c .reply)) (ltb room (length (extracted channels channel (w .count) src))) _ _ tt tt)
+    (walk-number copying tt tt tt tt tt tt tt tt channels (among-told channels channel t .0) src)))
+    (λ t. rw t tt)
+
+refused-number : (src lengths : List ℕ) (n : ℕ) → OneOf copying (refusedIn (ownCheck src lengths) n .reply)
+unfolding among refusedIn
+refused-number src lengths zero = tt
+refused-number src lengths (suc n) =
+    picked (λ (c : Copied). OneOf copying (c .reply)) (eqb (refusedIn (ownCheck src lengths) n .reply) 0) _ _
+    (picked (λ (c : Copied). OneOf copying (c .reply)) (eqb (ownCheck src lengths n .reply) 0) _ _ tt
+    (walk-number copying tt tt tt tt tt tt tt tt 1 (omega arith) (recordingAt src lengths n)))
+    (refused-number src lengths n)
+
+pub join-number : (src lengths : List ℕ) (room : ℕ) → OneOf copying (joinAnswer src lengths room .reply)
+unfolding among joinAnswer checkAll
+join-number src lengths room =
+    let w = ownCheck src lengths in
+    let n = length lengths in
+    picked (λ (c : Copied). OneOf copying (c .reply)) (isCount n) _ _
+    (picked (λ (c : Copied). OneOf copying (c .reply)) (ltb (length src) (startOf lengths n)) _ _ tt
+    (picked (λ (c : Copied). OneOf copying (c .reply)) (eqb (checkAll w n .reply) 0) _ _
+    (picked (λ (c : Copied). OneOf copying (c .reply)) (ltb room (length (joinedOf src lengths))) _ _ tt tt)
+    (picked (λ (c : Copied). OneOf copying (c .reply)) (eqb (refusedIn w n .reply) 0) _ _
+    (picked (λ (c : Copied). OneOf copying (c .reply)) (equalCounts w (w 0 .count) n) _ _ tt tt) (refused-number src lengths n)))) tt
+
+-- ---- a listing: 0, 10
+
+pub list-number : (src : List ℕ) (room : ℕ) → OneOf (0 ∷ 10 ∷ []) (listedIn src room .reply)
+unfolding among listedIn
+list-number src room = picked (λ (l : Listing). OneOf (0 ∷ 10 ∷ []) (l .reply)) (ltb room 33030) _ _ tt tt
+
+-- ---- the prefix byte: read 0, 1, 2, 3, 14; written 0, 8
+
+pub prefix-number : (p : Prefix) → OneOf (0 ∷ 1 ∷ 2 ∷ 3 ∷ 14 ∷ []) (prefixReading p .reply)
+unfolding among
+prefix-number (Data l) = tt
+prefix-number NoData = tt
+prefix-number NoByte = tt
+prefix-number Marked = tt
+prefix-number Reserved = tt
+
+pub byte-number : (b : Byte) → OneOf (0 ∷ 8 ∷ []) (prefixWriting b .reply)
+unfolding among
+byte-number (Is b) = tt
+byte-number OutOfRange = tt
+
+-- ---- a decoded word is a number with its next place (0), or a refusal: 6, 7
+
+abbrev decoding : List ℕ
+decoding = 0 ∷ 6 ∷ 7 ∷ []
+
+abbrev Decodes : Answer ℕ → Type 0
+Decodes a = (at left : ℕ) → OneOf decoding (numberOf (placed at left a))
+
+else-number : (o : Option (List Bool)) (k : ℕ) (g : Answer ℕ) → Decodes g → Decodes (orElse o k g)
+unfolding among
+else-number (some r) k g d = λ at left. tt
+else-number none k g d = d
+
+find-number : (t : List (List Bool)) (k : ℕ) (b : List Bool) → Decodes (find t k b)
+unfolding among find
+find-number [] k b = λ at left. tt
+find-number (w ∷ t) k b = else-number (strip w b) k (find t (suc k) b) (find-number t (suc k) b)
+
+keep-number : (b : Bool) (g : Answer ℕ) → Decodes g → Decodes (keep b g)
+unfolding among
+keep-number true g d = d
+keep-number false g d = λ at left. tt
+
+whole-number : (t : Bool) (n : ℕ) (b : List Bool) → Decodes (whole t n b)
+unfolding among
+whole-number true n b at left = tt
+whole-number false n b at left = tt
+
+below-number : (k : ℕ) (a : Answer ℕ) → Decodes a → Decodes (belowIn k a)
+below-number k (got v r) d = keep-number (ltb v k) (got v r) d
+below-number k (no x) d = d
+
+unword-number : (c : Coding) (b : List Bool) → Decodes (unword c b)
+unfolding unword
+unword-number (fixed n) b = whole-number (leb n (length b)) n b
+unword-number (prefix t u) b = below-number (length t) (find (t ++ u) 0 b) (find-number (t ++ u) 0 b)
+
+pub word-number : (s : List ℕ) (at end kind : ℕ) → OneOf decoding (numberOf (wordAt s at end kind))
+unfolding wordAt
+word-number s at end kind = unword-number (coding kind) (view s at (end - at)) at (end - at)
+
+-- and a run of words passes the refusal up with its number
+pub word-passed : (w : Word) → runReply (passedUp w) ≡ numberOf w
+word-passed (At v next) = refl
+word-passed (No x) = refl
+
+-- ---- norms, weights, shares and points: 0, 8
+
+abbrev two : List ℕ
+two = 0 ∷ 8 ∷ []
+
+pub legal-number : (transient : Bool) (norms : List ℕ) → OneOf two (legalised transient norms .reply)
+unfolding among legalised
+legal-number transient norms = picked (λ (a : Legal). OneOf two (a .reply)) (inRange norms 44) _ _ tt tt
+
+pub weigh-number : (transient : Bool) (norms : List ℕ) → OneOf two (weighed transient norms .reply)
+unfolding among weighed
+weigh-number transient norms = picked (λ (a : Weights). OneOf two (a .reply)) (inRange norms 44) _ _ tt tt
+
+pub allot-number : (transient wide : Bool) (norms : List ℕ) (budget : ℕ) → OneOf two (sharesOf transient wide norms budget .reply)
+unfolding among sharesOf
+allot-number transient wide norms budget = picked (λ (a : Shares). OneOf two (a .reply)) (inRange norms 44 && leb budget 2560) _ _ tt tt
+
+pub point-number : (rate : ℕ) (index : List ℕ) → OneOf two (pointOf rate index .reply)
+unfolding among pointOf
+point-number rate index = picked (λ (a : Point). OneOf two (a .reply)) (owns rate && below (2 ^ rate) index 8) _ _ tt tt
+
+pub index-number : (rate : ℕ) (point : List ℤ) → OneOf two (indexOf rate point .reply)
+unfolding among indexOf
+index-number rate point =
+    picked (λ (a : Index). OneOf two (a .reply)) (owns rate && agree (Rattle.lattice.specs.Lattice.point (2 ^ rate) (back (2 ^ rate) point)) point 8) _ _ tt tt
+
+pub row-point-number : (rate index : ℕ) → OneOf two (rowPoint rate index .reply)
+unfolding among rowPoint
+row-point-number rate index = picked (λ (a : Point). OneOf two (a .reply)) (eqb rate 1 && ltb index 256) _ _ tt tt
+
+pub row-index-number : (rate : ℕ) (point : List ℤ) → OneOf two (rowIndex rate point .reply)
+unfolding among rowIndex
+row-index-number rate point = picked (λ (a : Row). OneOf two (a .reply)) (eqb rate 1 && ltb (placeOf (eight point) book) 256) _ _ tt tt
+
+-- ---- all calls
+
+pub numbered : Numbered
+unfolding among
+numbered =
+    record {
+      read-prefix = λ src. prefix-number (prefixOf src);
+      write-prefix = λ mode. byte-number (byteOf mode);
+      read = λ src codes tail. read-number src (length codes) (length tail);
+      write = λ r codes tail out. picked (λ (w : Written). OneOf writing (w .reply)) (eqb (writeReply r codes tail (length out)) 0) _ _ tt (write-number r codes tail (length out));
+      write-empty = λ out. empty-number (length out);
+      layout = layout-number;
+      choose-flag-c = flag-c-number;
+      choose-flag-n = flag-n-number;
+      legalise = legal-number;
+      weigh = weigh-number;
+      allot = allot-number;
+      lattice-point = point-number;
+      lattice-index = index-number;
+      codebook-point = row-point-number;
+      codebook-index = row-index-number;
+      check = check-number;
+      list = λ src out. list-number src (length out);
+      check-blocks = check-blocks-number;
+      extract = λ src channels channel out. extract-number src channels channel (length out);
+      join = λ src lengths out. join-number src lengths (length out);
+      read-block = λ src channels codes tails. picked (λ (b : Block). OneOf (0 ∷ 1 ∷ 2 ∷ 3 ∷ 4 ∷ 5 ∷ 6 ∷ 7 ∷ 10 ∷ 17 ∷ []) (b .reply)) (eqb (blockRead.blockReply src channels (length codes) (length tails)) 0) _ _ tt (read-block-number src channels (length codes) (length tails));
+      write-block = λ r channels codes tails out. picked (λ (w : Written). OneOf (0 ∷ 7 ∷ 8 ∷ 9 ∷ 10 ∷ 12 ∷ 13 ∷ 17 ∷ []) (w .reply)) (eqb (blockWritten.blockReply r channels codes tails (length out)) 0) _ _ tt (write-block-number r channels codes tails (length out));
+      word = word-number;
+      run = word-passed;
+    }
