@@ -9,3 +9,4 @@ pub mod Order
 pub mod Runs
 pub mod Sums
 pub mod Whole
+pub mod Signed

@@ -7,32 +7,13 @@ ghost use lib.ListN.{getD};
 ghost use Rattle.ground.specs.Whole.{Is};
 ghost use Rattle.lattice.specs.Lattice.{sumTo, x, rounded, roundedSum, largest, point};
 ghost use Rattle.lattice.specs.Inner.{Power, Error, Errors, away};
+use ground::numbers::lower;
+use ground::numbers::u32_from_u16;
 
 // The sum of the rounded numbers of an index, and its eight errors, raised.
 struct Rounded {
     sum: u32,
     errors: [u32; 8],
-}
-
-pub fn wide(x: u16) -> u32
-    ensures { λ r. ⌜ (r ≡ x) × (r < 65536) ⌝ }
-{
-    x as u32
-}
-
-// v + 32768, for a signed v
-pub fn raise(v: i16) -> u32
-    ensures { λ u. ⌜ Is v u 32768 × (u < 65536) ⌝ }
-{
-    ((v as i32) + 32768) as u32
-}
-
-// u − 32768, as a signed number
-pub fn lower(u: u32) -> i16
-    requires { ⌜ u < 65536 ⌝ }
-    ensures { λ v. ⌜ Is v u 32768 ⌝ }
-{
-    ((u as i32) - 32768) as i16
 }
 
 // r, 2 to the rate
@@ -47,14 +28,14 @@ pub fn power(rate: u8) -> u32
 fn first_x(k: &[u16; 8]) -> u32
     ensures { λ r. ⌜ (r ≡ 2 * getD (now (k .entry)) 0 0 + sumTo (λ (i : ℕ). getD (now (k .entry)) (suc i) 0) 7) × (r < 1000000) ⌝ }
 {
-    2 * wide(k[0])
-        + wide(k[1])
-        + wide(k[2])
-        + wide(k[3])
-        + wide(k[4])
-        + wide(k[5])
-        + wide(k[6])
-        + wide(k[7])
+    2 * u32_from_u16(k[0])
+        + u32_from_u16(k[1])
+        + u32_from_u16(k[2])
+        + u32_from_u16(k[3])
+        + u32_from_u16(k[4])
+        + u32_from_u16(k[5])
+        + u32_from_u16(k[6])
+        + u32_from_u16(k[7])
 }
 
 fn x_at(k: &[u16; 8], first: u32, i: usize) -> u32
@@ -64,7 +45,7 @@ fn x_at(k: &[u16; 8], first: u32, i: usize) -> u32
     if i == 0 {
         return first;
     }
-    wide(k[i])
+    u32_from_u16(k[i])
 }
 
 // x / r to the nearest whole number, half downwards
@@ -164,7 +145,7 @@ pub fn point_list(rate: u8, k: &[u16; 8]) -> [i16; 8]
     let w = changed_place(s);
     let mut v = [0i16; 8];
     for i in 0usize..8 {
-        let z = lower(settle(r, errors[i], i == w));
+        let z = lower(settle(r, errors[i], i == w), 32768);
         v[i] = z;
     }
     v

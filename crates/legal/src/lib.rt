@@ -4,6 +4,7 @@ ghost use Prim.Native.Nat.{ℕ, _+_, _≤_, _<_, min};
 ghost use lib.ListN.{getD};
 ghost use Rattle.legal.specs.Legal.{capped, lowered, held};
 ghost use Rattle.legal.specs.Answers.{legalised};
+use ground::numbers::smaller8;
 use ground::replies::DONE;
 use ground::replies::OUT_OF_RANGE;
 
@@ -14,17 +15,11 @@ pub struct Legal {
     pub norms: [u8; 44],
 }
 
-fn smaller(a: u8, b: u8) -> u8
-    ensures { λ r. ⌜ r ≡ min a b ⌝ }
-{
-    if a < b { a } else { b }
-}
-
 fn cap(ss: [u8; 44]) -> [u8; 44]
     ensures { λ r. ⌜ r ≡ capped ss ⌝ }
 {
     let mut out = ss;
-    out[0] = smaller(ss[0], 31);
+    out[0] = smaller8(ss[0], 31);
     out
 }
 
@@ -38,7 +33,7 @@ fn lower(ss: [u8; 44]) -> [u8; 44]
     let mut i: usize = 43;
     while 0 < i {
         i -= 1;
-        last = smaller(ss[i], last + 15);
+        last = smaller8(ss[i], last + 15);
         out[i] = last;
     }
     out
@@ -54,7 +49,7 @@ fn hold(ss: [u8; 44]) -> [u8; 44]
     let mut i: usize = 0;
     while i < 43 {
         i += 1;
-        last = smaller(ss[i], last + 16);
+        last = smaller8(ss[i], last + 16);
         out[i] = last;
     }
     out

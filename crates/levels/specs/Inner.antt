@@ -3,7 +3,7 @@
 use mathlib.Core.Path.{_≡_}
 use mathlib.Core.Bool.{cond, _&&_, Bool}
 use mathlib.Core.List.{List}
-use Prim.Native.Nat.{ℕ, _+_, _-_, _*_, _<_, zero, suc, _%_, _/_}
+use Prim.Native.Nat.{ℕ, _+_, _-_, _*_, _<_, zero, suc, _%_, _/_, max}
 use lib.Dec.{ltb, leb}
 use lib.ListN.{length}
 use Rattle.ground.specs.Fills.{table}
@@ -56,7 +56,7 @@ bidAt keys rates left p = bid (nth keys p) (lengthOf p) (nth rates p) left
 -- the highest of f 0, …, f (n − 1)
 unfoldable pub highest : (ℕ → ℕ) → ℕ → ℕ
 highest f zero = 0
-highest f (suc n) = highest f n + (f n - highest f n)
+highest f (suc n) = max (highest f n) (f n)
 
 -- a spot above 0 has its band in its lowest six bits
 abbrev pub Keyed : List ℕ → Type 0

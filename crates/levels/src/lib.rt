@@ -8,6 +8,8 @@ ghost use Rattle.ground.specs.Sums.{nth};
 ghost use Rattle.contest.specs.Bands.{lengthOf, competing};
 ghost use Rattle.levels.specs.Inner.{climb, bill, bid, bidAt, highest, Keyed, Finished, keyOf, keysOf};
 ghost use Rattle.levels.specs.Levels.{Room, settled};
+use ground::numbers::larger16;
+use ground::numbers::minus16;
 
 pub struct Ends {
     pub rates: [u8; 44],
@@ -68,22 +70,10 @@ fn lengths() -> [u16; 44]
     LENGTHS
 }
 
-fn less(a: u16, b: u16) -> u16
-    ensures { λ r. ⌜ r ≡ a - b ⌝ }
-{
-    if b < a { a - b } else { 0 }
-}
-
-fn larger(a: u16, b: u16) -> u16
-    ensures { λ r. ⌜ r ≡ a + (b - a) ⌝ }
-{
-    if a < b { b } else { a }
-}
-
 fn climb_of(key: u16, level: u16) -> u16
     ensures { λ r. ⌜ (r ≡ climb key level) × (r ≤ 9) ⌝ }
 {
-    let d = less(key, level) / 2048;
+    let d = minus16(key, level) / 2048;
     if d < 9 { d } else { 9 }
 }
 
@@ -108,7 +98,7 @@ fn level_of(keys: &[u16; 44], sizes: &[u16; 44], budget: u16) -> u16
     let mut level: u16 = 65535;
     let mut step: u16 = 32768;
     while 0 < step {
-        let lower = less(level, step);
+        let lower = minus16(level, step);
         if bill_of(keys, sizes, lower) <= budget {
             level = lower;
         }
@@ -134,7 +124,7 @@ fn bid_of(key: u16, size: u16, rate: u8, left: u16) -> u16
 {
     if size <= left {
         if rate < 9 {
-            return less(key, 2048 * (rate as u16));
+            return minus16(key, 2048 * (rate as u16));
         }
     }
     0
@@ -148,7 +138,7 @@ fn top_bid(keys: &[u16; 44], sizes: &[u16; 44], rates: &[u8; 44], left: u16) -> 
     let mut top: u16 = 0;
     let mut i = 0;
     while i < 44 {
-        top = larger(top, bid_of(keys[i], sizes[i], rates[i], left));
+        top = larger16(top, bid_of(keys[i], sizes[i], rates[i], left));
         i += 1;
     }
     top

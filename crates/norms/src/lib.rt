@@ -7,6 +7,9 @@ ghost use Rattle.norms.specs.Steps.{indices, numbers, stepsClose};
 ghost use Rattle.norms.specs.Part.{normKinds, normPart, normBits};
 ghost use Rattle.norms.specs.Answers.{partOf, normReply, choiceOf};
 ghost use Rattle.norms.specs.Inner.{indicesOf};
+use ground::numbers::minus16;
+use ground::numbers::u16_from_u8;
+use ground::numbers::wide16;
 use ground::replies::DONE;
 use ground::replies::FAR_APART;
 use ground::replies::NORM_OUTSIDE;
@@ -30,24 +33,6 @@ pub struct Choice {
 struct Indices {
     sound: bool,
     norms: [u8; 44],
-}
-
-fn wide(x: u8) -> u16
-    ensures { λ r. ⌜ (r ≡ x) × (r < 256) ⌝ }
-{
-    x as u16
-}
-
-fn wide16(x: u16) -> usize
-    ensures { λ r. ⌜ (r ≡ x) × (r < 65536) ⌝ }
-{
-    x as usize
-}
-
-fn minus(a: u16, b: u16) -> u16
-    ensures { λ r. ⌜ r ≡ a - b ⌝ }
-{
-    if b < a { a - b } else { 0 }
 }
 
 // The indices in sent order from the numbers sent; unsound where one leaves 0 to 39.
@@ -86,8 +71,8 @@ fn numbers_of(ss: [u8; 44]) -> [u16; 44]
     let mut x: u16 = 15;
     let mut i: usize = 0;
     while i < 44 {
-        let y = wide(ss[i]);
-        out[i] = minus(y + 15, x);
+        let y = u16_from_u8(ss[i]);
+        out[i] = minus16(y + 15, x);
         x = y;
         i += 1;
     }
@@ -163,8 +148,8 @@ fn steps_close(ss: [u8; 44]) -> bool
 {
     let mut i: usize = 0;
     while i < 43 {
-        let x = wide(ss[i]);
-        let y = wide(ss[i + 1]);
+        let x = u16_from_u8(ss[i]);
+        let y = u16_from_u8(ss[i + 1]);
         if y + 15 < x {
             return false;
         }

@@ -6,6 +6,8 @@ ghost use lib.IntN.{pos};
 ghost use Rattle.ground.specs.Whole.{Is};
 ghost use Rattle.lattice.specs.Lattice.{sumZ, point, backAt, back};
 ghost use Rattle.points.specs.Answers.{owns, below, noPoint, pointOf, agree, noIndex, indexOf};
+use ground::numbers::raise;
+use ground::numbers::u32_from_u16;
 use ground::replies::DONE;
 use ground::replies::OUT_OF_RANGE;
 
@@ -27,7 +29,7 @@ fn in_range(r: u32, k: &[u16; 8]) -> bool
 {
     let mut all = true;
     for i in 0usize..8 {
-        if r <= lattice::wide(k[i]) {
+        if r <= u32_from_u16(k[i]) {
             all = false;
         }
     }
@@ -85,7 +87,7 @@ fn raised_rest(v: &[i16; 8]) -> u32
     let mut sum: u32 = 0;
     for i in 0usize..7 {
         let z = v[i + 1];
-        sum += lattice::raise(z);
+        sum += raise(z);
     }
     sum
 }
@@ -96,7 +98,7 @@ fn back_first(r: u32, v: &[i16; 8]) -> u32
     ensures { λ k. ⌜ (k ≡ backAt r (now (v .entry)) 0) × (k < 65536) ⌝ }
 {
     let z = v[0];
-    (lattice::raise(z) + 458752 - raised_rest(v)) / 2 % r
+    (raise(z) + 458752 - raised_rest(v)) / 2 % r
 }
 
 // vi modulo r, at the other places
@@ -105,7 +107,7 @@ fn back_other(r: u32, v: &[i16; 8], i: usize) -> u32
     ensures { λ k. ⌜ (k ≡ backAt r (now (v .entry)) i) × (k < 65536) ⌝ }
 {
     let z = v[i];
-    lattice::raise(z) % r
+    raise(z) % r
 }
 
 fn back_list(rate: u8, v: &[i16; 8]) -> [u16; 8]
@@ -129,7 +131,7 @@ pub fn same(v: &[i16; 8], w: &[i16; 8]) -> bool
     for place in 0usize..8 {
         let a = v[place];
         let b = w[place];
-        if lattice::raise(a) != lattice::raise(b) {
+        if raise(a) != raise(b) {
             all = false;
         }
     }

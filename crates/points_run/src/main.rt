@@ -3,6 +3,8 @@
 ghost use Prim.Native.Nat.{_+_, _<_, _≤_};
 ghost use lib.ListN.{length};
 use codebook::Row;
+use ground::numbers::lower;
+use ground::numbers::raise;
 use points::Index;
 use points::Point;
 
@@ -54,7 +56,7 @@ fn coordinates(s: &[u8], at: usize) -> [i16; 8]
 {
     let mut v = [0i16; 8];
     for i in 0usize..8 {
-        let z = lattice::lower(word(s, at + 5 + i * 5));
+        let z = lower(word(s, at + 5 + i * 5), 32768);
         v[i] = z;
     }
     v
@@ -74,7 +76,7 @@ fn print_point(p: Point) {
     let mut numbers = [0u32; 8];
     for i in 0usize..8 {
         let z = v[i];
-        numbers[i] = lattice::raise(z);
+        numbers[i] = raise(z);
     }
     print(p.reply, numbers);
 }

@@ -3,6 +3,7 @@
 ghost use mathlib.Core.Path.{_≡_};
 ghost use Rattle.prefix.specs.Sizes.{modeBytes, lengthBytes, lengthOf, modeOf};
 ghost use Rattle.prefix.specs.Prefix.{prefixOf, byteOf};
+use ground::numbers::u16_from_u8;
 
 // A mode, 0 to 19 in Table 22.
 pub struct Mode(pub u8);
@@ -39,12 +40,6 @@ pub enum Byte {
     OutOfRange,
 }
 
-fn wide(x: u8) -> u16
-    ensures { λ r. ⌜ r ≡ x ⌝ }
-{
-    x as u16
-}
-
 impl Mode {
     // Body bytes by Table 22; 0 for a number that is no mode.
     pub fn bytes(self) -> u16
@@ -55,9 +50,9 @@ impl Mode {
             return 0;
         }
         if 14 < m {
-            return 20 * wide(m) - 60;
+            return 20 * u16_from_u8(m) - 60;
         }
-        10 * wide(m) + 80
+        10 * u16_from_u8(m) + 80
     }
 
     // The field L that names the same size.

@@ -7,6 +7,7 @@ ghost use Rattle.codebook.specs.Rows.{twos, signs};
 use codebook::Row;
 use codebook::tables::SIGNS;
 use codebook::tables::TWOS;
+use ground::numbers::raise;
 use ground::replies::DONE;
 use ground::replies::OUT_OF_RANGE;
 
@@ -20,7 +21,7 @@ struct Span {
 fn weight_of(z: i16) -> u32
     ensures { λ w. ⌜ (w ≡ weight z) × (w ≤ 256) ⌝ }
 {
-    let u = lattice::raise(z);
+    let u = raise(z);
     if 32768 < u {
         return 256;
     }

@@ -7,6 +7,12 @@ use crate::columns::HEIGHTS;
 use crate::columns::LIFTS;
 use crate::columns::PARTS;
 use crate::columns::PLACES;
+use ground::numbers::larger16;
+use ground::numbers::lower;
+use ground::numbers::minus16;
+use ground::numbers::smaller16;
+use ground::numbers::u16_from_u8;
+use ground::numbers::u32_from_u16;
 use ground::replies::DONE;
 use ground::replies::OUT_OF_RANGE;
 ghost use lib.ListN.{length};
@@ -26,30 +32,6 @@ pub struct Weights {
     pub reply: u8,
     pub weights: [u8; 44],
     pub scores: [i16; 44],
-}
-
-fn minus(a: u16, b: u16) -> u16
-    ensures { λ r. ⌜ r ≡ a - b ⌝ }
-{
-    if b <= a { a - b } else { 0 }
-}
-
-fn larger(a: u16, b: u16) -> u16
-    ensures { λ r. ⌜ r ≡ max a b ⌝ }
-{
-    if a < b { b } else { a }
-}
-
-fn smaller(a: u16, b: u16) -> u16
-    ensures { λ r. ⌜ r ≡ min a b ⌝ }
-{
-    if a < b { a } else { b }
-}
-
-fn wide(x: u8) -> u16
-    ensures { λ r. ⌜ (r ≡ x) × (r < 256) ⌝ }
-{
-    x as u16
 }
 
 fn raised(index: u8) -> u8
@@ -90,7 +72,7 @@ fn sum_of(qs: &[u8; 44], p: usize, n: usize) -> u16
     let mut sum: u16 = 0;
     let mut i = 0;
     while i < n {
-        sum += wide(qs[p + i]);
+        sum += u16_from_u8(qs[p + i]);
         i += 1;
     }
     sum
@@ -123,7 +105,7 @@ fn forwards(bs: &[u16; 20]) -> [u16; 20]
     let mut i = 0;
     while i < 19 {
         i += 1;
-        last = larger(bs[i], minus(last, 2880));
+        last = larger16(bs[i], minus16(last, 2880));
         out[i] = last;
     }
     out
@@ -138,7 +120,7 @@ fn backwards(bs: &[u16; 20]) -> [u16; 20]
     let mut i = 19;
     while 0 < i {
         i -= 1;
-        last = larger(bs[i], minus(last, 5760));
+        last = larger16(bs[i], minus16(last, 5760));
         out[i] = last;
     }
     out
@@ -153,7 +135,7 @@ fn excesses(bs: &[u16; 20]) -> [u16; 20]
     let mut out = [0u16; 20];
     let mut i = 0;
     while i < 20 {
-        out[i] = minus(larger(bs[i], floors[i]), lifts[i]);
+        out[i] = minus16(larger16(bs[i], floors[i]), lifts[i]);
         i += 1;
     }
     out
@@ -166,7 +148,7 @@ fn most_of(ds: &[u16; 20]) -> u16
     let mut i = 0;
     while i < 19 {
         i += 1;
-        m = larger(m, ds[i]);
+        m = larger16(m, ds[i]);
     }
     m
 }
@@ -178,7 +160,7 @@ fn least_of(ds: &[u16; 20]) -> u16
     let mut i = 0;
     while i < 19 {
         i += 1;
-        m = smaller(m, ds[i]);
+        m = smaller16(m, ds[i]);
     }
     m
 }
@@ -243,7 +225,11 @@ fn spread_at(transient: bool, ws: &[u8; 44], p: usize) -> u8
 {
     if transient {
         let q = 4 * (p / 4);
-        ((wide(ws[q]) + wide(ws[q + 1]) + wide(ws[q + 2]) + wide(ws[q + 3])) / 4) as u8
+        ((u16_from_u8(ws[q])
+            + u16_from_u8(ws[q + 1])
+            + u16_from_u8(ws[q + 2])
+            + u16_from_u8(ws[q + 3]))
+            / 4) as u8
     } else {
         ws[p]
     }
@@ -272,20 +258,13 @@ pub fn weights_of(transient: bool, norms: &[u8; 44]) -> [u8; 44]
     spreads(transient, &ws)
 }
 
-// A score raised by 368, as the paper's number.
-fn lowered(height: u16) -> i16
-    requires { ⌜ height ≤ 976 ⌝ }
-    ensures { λ r. ⌜ Is r height 368 ⌝ }
-{
-    ((height as i32) - 368) as i16
-}
-
 // (31)
 fn score_of(index: u8, w: u8) -> i16
     requires { ⌜ (index ≤ 39) × (w ≤ 64) ⌝ }
     ensures { λ r. ⌜ r ≡ score index w ⌝ }
 {
-    lowered(912 - 16 * wide(index) + wide(w))
+    let height = 912 - 16 * u16_from_u8(index) + u16_from_u8(w);
+    lower(u32_from_u16(height), 368)
 }
 
 fn scores_of(norms: &[u8; 44], ws: &[u8; 44]) -> [i16; 44]

@@ -13,6 +13,7 @@ ghost use Rattle.words.specs.Look.{lookTable};
 ghost use Rattle.words.specs.Spell.{spellTable};
 use bits::Refusal;
 use ground::numbers::minus;
+use ground::numbers::wide8;
 use ground::numbers::wide16;
 
 pub mod tables;
@@ -29,17 +30,11 @@ pub enum Word {
     No(Refusal),
 }
 
-fn wide(x: u8) -> usize
-    ensures { λ r. ⌜ (r ≡ x) × (r < 256) ⌝ }
-{
-    x as usize
-}
-
 fn look(table: &[u8; 640], k: usize) -> usize
     requires { ⌜ (now table ≡ lookTable) × (k < 640) ⌝ }
     ensures { λ r. ⌜ T (right k r) × (r < 256) ⌝ }
 {
-    wide(table[k])
+    wide8(table[k])
 }
 
 // The column of a kind from 16 on.
@@ -77,7 +72,7 @@ pub fn word_in(table: &[u8; 640], s: &[u8], at: usize, end: usize, kind: u8) -> 
     if kind == 0 {
         return Word::At(0, at);
     }
-    let kind = wide(kind);
+    let kind = wide8(kind);
     let left = minus(end, at);
     if 16 <= kind {
         return column_word(table, s, at, left, column_of(kind));
@@ -100,7 +95,7 @@ fn start_of(c: usize) -> usize
     requires { ⌜ c < 6 ⌝ }
     ensures { λ r. ⌜ (r ≡ startOf c) × (r ≤ 92) ⌝ }
 {
-    wide(tables::STARTS[c])
+    wide8(tables::STARTS[c])
 }
 
 // How many words a column has.
@@ -129,7 +124,7 @@ fn spelt(table: &[u16; 92], kind: u8, v: u16) -> Spelling
     requires { ⌜ now table ≡ spellTable ⌝ }
     ensures { λ r. ⌜ (word (r .bits) (r .value) ≡ wordOf (coding kind) v) × (r .bits ≤ 16) ⌝ }
 {
-    let kind = wide(kind);
+    let kind = wide8(kind);
     let v = wide16(v);
     if kind < 16 {
         return Spelling {
@@ -197,7 +192,7 @@ pub fn word_bits(kind: u8, v: u16) -> usize
 pub fn has_word(kind: u8, v: u16) -> bool
     ensures { λ r. ⌜ r ≡ fit (coding kind) v ⌝ }
 {
-    let kind = wide(kind);
+    let kind = wide8(kind);
     let v = wide16(v);
     if kind < 16 {
         return v < 1 << kind;

@@ -3,7 +3,7 @@
 use mathlib.Core.Bool.{Bool, cond, false, true}
 use mathlib.Core.List.{List}
 use mathlib.Core.Path.{_≡_, refl, sym, ap, _∙_}
-use Prim.Native.Nat.{zero, suc, _%_, _*_, _+_, _-_, _<_, _≤_, ℕ}
+use Prim.Native.Nat.{zero, suc, _%_, _*_, _+_, _-_, _<_, _≤_, ℕ, max}
 use native.Mathlib.Nat.{mul-le-mul, zero-mul, not-suc-le-zero}
 use native.Mathlib.Numerals.{add-one}
 use native.Mathlib.Omega.{arith}
@@ -77,7 +77,7 @@ pub highest-none : (f : ℕ → ℕ) → highest f 0 ≡ 0
 unfolding highest
 highest-none f = refl
 
-pub highest-more : (f : ℕ → ℕ) (i top b r : ℕ) → top ≡ highest f i → b ≡ f i → r ≡ top + (b - top) → r ≡ highest f (i + 1)
+pub highest-more : (f : ℕ → ℕ) (i top b r : ℕ) → top ≡ highest f i → b ≡ f i → r ≡ max top b → r ≡ highest f (i + 1)
 unfolding highest
 highest-more f i top b r et eb er = rw (add-one i) (er ∙ simp (et, eb))
 
@@ -98,12 +98,12 @@ highest-at f rule (suc n) r pos =
     by-bool (ltb (highest f n) (f n))
     (λ t.
     let h = ltb-true (highest f n) (f n) t in
-    let e : highest f n + (f n - highest f n) ≡ f n = omega arith in
+    let e : max (highest f n) (f n) ≡ f n = omega arith in
     let q : rule (f n) ≡ n = r n (omega arith) (omega arith) in
     rw (e, q) (omega arith, refl))
     (λ t.
     let h = ltb-false (highest f n) (f n) t in
-    let e : highest f n + (f n - highest f n) ≡ highest f n = omega arith in
+    let e : max (highest f n) (f n) ≡ highest f n = omega arith in
     let i = highest-at f rule n (λ p b. r p (omega arith)) (rw e at pos) in
     rw e (omega (arith, i .0), i .1))
 

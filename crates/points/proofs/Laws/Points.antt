@@ -24,7 +24,7 @@ use Rattle.ground.proofs.Laws.Whole.{is-same}
 use Rattle.lattice.specs.Inner.{Power}
 use Rattle.lattice.specs.Lattice.{sumZ, point, back}
 use Rattle.lattice.proofs.Laws.Lattice.{sumZ-more}
-use Rattle.lattice.proofs.Laws.Signed.{read}
+use Rattle.ground.proofs.Laws.Signed.{read}
 use Rattle.points.specs.Answers.{allTo, owns, below, noPoint, pointOf, eqZ, agree, noIndex, indexOf}
 use Rattle.points.specs.declared.Point.{Point}
 use Rattle.points.specs.declared.Index.{Index}

@@ -6,7 +6,8 @@ use borrow.Author.Needs.{needs}
 use lib.ListN.{getD}
 use lib.IntN.{pos}
 use Rattle.ground.proofs.Laws.Whole.{is-same, is-sub}
-use Rattle.lattice.proofs.Laws.Signed.{read, first-is}
+use Rattle.ground.proofs.Laws.Signed.{read}
+use Rattle.lattice.proofs.Laws.Signed.{first-is}
 use Rattle.points.proofs.back_first.Statement.{statement}
 use Rattle.points.proofs.back_first.Tie as tie
 

@@ -8,7 +8,7 @@ use lib.ListN.{getD}
 use lib.IntN.{pos}
 use Rattle.points.specs.Answers.{eqZ, agree}
 use Rattle.points.proofs.Laws.Points.{Tested, tested-none, tested-out, tested-in, tested-done, eqZ-is}
-use Rattle.lattice.proofs.Laws.Signed.{read}
+use Rattle.ground.proofs.Laws.Signed.{read}
 use Rattle.points.proofs.same.Statement.{statement}
 use Rattle.points.proofs.same.Tie as tie
 

@@ -243,5 +243,5 @@ pub score-is : (index w : ℕ) → index ≤ 39 → Is (score index w) (912 - 16
 unfolding score
 score-is index w h = is-same _ _ (is-add (is-scale 16 (loud-is index h)) (is-pos w)) (omega arith)
 
-pub score-made : (index w : ℕ) {z : ℤ} {i v : ℕ} → index ≤ 39 → i ≡ index → v ≡ w → Is z (912 - 16 * i + v) 368 → z ≡ score index w
-score-made index w h ei ev s = is-unique s (is-same _ _ (score-is index w h) (omega arith))
+pub score-made : (index w : ℕ) {z : ℤ} {i v u : ℕ} → index ≤ 39 → i ≡ index → v ≡ w → u ≡ 912 - 16 * i + v → Is z u 368 → z ≡ score index w
+score-made index w h ei ev eu s = is-unique s (is-same _ _ (score-is index w h) (omega arith))

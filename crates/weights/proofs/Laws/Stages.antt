@@ -185,29 +185,6 @@ scalesOf ds b = scaled (most ds 19) (least ds 19) (nth ds b)
 pub scaled-by : (ds : List ℕ) (b : ℕ) {hi lo v : ℕ} → hi ≡ most ds 19 → lo ≡ least ds 19 → v ≡ scaled hi lo (nth ds b) → v ≡ scalesOf ds b
 scaled-by ds b eh el ev = ev ∙ ap₂ (λ (x y : ℕ). scaled x y (nth ds b)) eh el
 
--- a raised score less 368, at 32 and at 16 bits
-module _ (u : ℕ) (l : u ≤ 976) where
-  down-is : Is (pos u -ℤ pos 368) u 368
-  down-is = is-same _ _ (is-sub (is-pos u) (is-pos 368)) (omega arith)
-
-  down-fits : SFits w16 (pos u -ℤ pos 368)
-  down-fits = record { sfits = is-mag 32768 down-is (omega arith) (omega arith) }
-
-  wide-fits : SFits w32 (pos u -ℤ pos 368)
-  wide-fits = sfits-widen {w = w16} {w′ = w32} tt down-fits
-
-  read : toZ w32 u ≡ pos u
-  read = toZ-ofZ {w = w32} {z = pos u} (record { sfits = omega arith })
-
-  pub lowered-wide : SFits w32 (toZ w32 u -ℤ pos 368)
-  lowered-wide = rw read wide-fits
-
-  pub lowered-fits : SFits w16 (toZ w32 (ofZ w32 (toZ w32 u -ℤ pos 368)))
-  lowered-fits = rw (read, toZ-ofZ wide-fits) down-fits
-
-  pub lowered-is : Is (toZ w16 (ofZ w16 (toZ w32 (ofZ w32 (toZ w32 u -ℤ pos 368))))) u 368
-  lowered-is = rw (read, toZ-ofZ wide-fits, toZ-ofZ down-fits) down-is
-
 -- the answer, by the test
 module _ (transient : Bool) (norms : List ℕ) where
   pub weighed-is : (ws : List ℕ) (ss : List ℤ) → inRange norms 44 ≡ true → ws ≡ weightsOf transient norms

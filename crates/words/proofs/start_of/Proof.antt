@@ -5,4 +5,4 @@ use Rattle.words.proofs.start_of.Statement.{statement}
 use Rattle.words.proofs.start_of.Tie as tie
 
 pub start-of-spec : {M : Type 1} → statement M
-start-of-spec = tie.close (tie.spec (λ c. search needs) (λ c κs. search needs) (λ c. rw (c .wide .ensures .0) (start-right (c .before .args .c) (search))))
+start-of-spec = tie.close (tie.spec (λ c. search needs) (λ c κs. search needs) (λ c. rw (c .wide8 .ensures .0) (start-right (c .before .args .c) (search))))

@@ -72,7 +72,7 @@ returns c =
     (n .ensures .1)
     (w .ensures .0 ∙ ap (λ (l : List ℕ). length (writeAll (map coding l) vs)) q)
     (w .ensures .1 ∙ ap (λ (l : List ℕ). laid (n .last .0) (12 + n .result) (writeAll (map coding l) vs)) q)
-    (at-spare-of .spare-of .ensures) (at-wide8 .wide8 .ensures) (at-write-bits2 .write-bits2 .ensures)
+    (at-spare-of .spare-of .ensures) (at-wide8 .wide8 .ensures .0) (at-write-bits2 .write-bits2 .ensures)
     (at-copy-bits .copy-bits .ensures ∙ ap
     (λ (t : ℕ). laid (at-write-bits2 .write-bits2 .last .0) (12 + n .result + w .result + at-spare-of .spare-of .result) (view ts 0 t))
     (at-wide16 .wide16 .ensures .0))

@@ -7,12 +7,12 @@ use Rattle.prefix.proofs.Mode.bytes.Statement.{statement}
 use Rattle.prefix.proofs.Mode.bytes.Tie as tie
 
 returns-2 : tie.Need-returns-2
-returns-2 c = omega (arith, mode-twenty _ (c .before .if2 .taken) (omega arith), c .wide .ensures)
+returns-2 c = omega (arith, mode-twenty _ (c .before .if2 .taken) (omega arith), c .u16-from-u8 .ensures .0)
 
 returns-3 : tie.Need-returns-3
 returns-3 c =
     let at-start : tie.Start = search in
-    omega (arith, mode-ten (at-start .args .self .0) (c .before .if2 .left), c .wide2 .ensures)
+    omega (arith, mode-ten (at-start .args .self .0) (c .before .if2 .left), c .u16-from-u82 .ensures .0)
 
 pub bytes-spec : {M : Type 1} → statement M
 bytes-spec =

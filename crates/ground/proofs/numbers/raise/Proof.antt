@@ -1,9 +1,9 @@
--- `lattice::raise` meets its contract: v + 32768 is a natural number below 65536, and neither cast nor sum loses a bit of it. Assumes nothing.
+-- `numbers::raise` meets its contract: v + 32768 is a natural number below 65536, and neither cast nor sum loses a bit of it. Assumes nothing.
 use native.Mathlib.Omega.{arith}
 use mir.Facts.{toZ-ofZ}
-use Rattle.lattice.proofs.Laws.Signed.{up-raised, up-wide, up-fits, up-held}
-use Rattle.lattice.proofs.raise.Statement.{statement}
-use Rattle.lattice.proofs.raise.Tie as tie
+use Rattle.ground.proofs.Laws.Signed.{up-raised, up-wide, up-fits, up-held}
+use Rattle.ground.proofs.numbers.raise.Statement.{statement}
+use Rattle.ground.proofs.numbers.raise.Tie as tie
 
 pub raise-spec : {M : Type 1} → statement M
 raise-spec =
