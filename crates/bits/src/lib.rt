@@ -1,5 +1,5 @@
 // Bits of lent bytes, top bit first: n bits at a bit place, read and written, by bytes and never bit by bit.
-// In specs/: codings of numbers as words, and codecs with their two laws.
+// In specs/: codings of numbers as words, and codecs. Their two laws are in proofs/Laws.
 ghost use mathlib.Core.Path.{_≡_};
 ghost use Prim.Native.Nat.{ℕ, _+_, _*_, _/_, _%_, _<_, min};
 ghost use lib.ListN.{getD, set};

@@ -12,7 +12,7 @@ use Rattle.prefix.specs.Sizes.{lengthBytes, modeBytes}
 use Rattle.prefix.specs.Prefix.{prefixOf}
 use Rattle.prefix.specs.declared.Prefix.{Prefix}
 use Rattle.prefix.specs.declared.Prefix.the-variants.{Data, NoData, NoByte, Marked, Reserved}
-use Rattle.frame.specs.Layout.{Frame, isTransient, flagL, flagN, flagC, frame}
+use Rattle.frame.specs.Layout.{Frame, flagsIn, normsIn, codesIn, noiseIn, tailIn, isTransient, flagL, flagN, flagC, frame}
 use Rattle.kinds.specs.declared.Flags.{Flags}
 use Rattle.frame.specs.declared.Record.{Record}
 use Rattle.frame.specs.declared.Reading.{Reading}
@@ -64,13 +64,13 @@ abbrev pub recordOf : ℕ → Frame → Record
 recordOf mode x =
     record {
       mode = mode;
-      transient = isTransient (x .0);
-      «flag_l» = flagL (x .0);
-      «flag_n» = flagN (x .0);
-      «flag_c» = flagC (x .0);
-      norms = x .1 .0;
-      noise = x .1 .1 .1 .0;
-      «tail_bits» = length (x .1 .1 .1 .1);
+      transient = isTransient (flagsIn x);
+      «flag_l» = flagL (flagsIn x);
+      «flag_n» = flagN (flagsIn x);
+      «flag_c» = flagC (flagsIn x);
+      norms = normsIn x;
+      noise = noiseIn x;
+      «tail_bits» = length (tailIn x);
     }
 
 -- 0 gives the next place size + 1, 14 gives 1
@@ -83,9 +83,9 @@ readingOf (sound mode x) = record { reply = done; next = modeBytes mode + 1; «r
 abbrev pub codesAfter : List ℕ → Outcome → List ℕ
 codesAfter codes (refused x) = codes
 codesAfter codes empty = codes
-codesAfter codes (sound mode x) = x .1 .1 .0 ++ drop 800 codes
+codesAfter codes (sound mode x) = codesIn x ++ drop 800 codes
 
 abbrev pub tailAfter : List ℕ → Outcome → List ℕ
 tailAfter tail (refused x) = tail
 tailAfter tail empty = tail
-tailAfter tail (sound mode x) = tailBytes (x .1 .1 .1 .1) ++ drop 320 tail
+tailAfter tail (sound mode x) = tailBytes (tailIn x) ++ drop 320 tail

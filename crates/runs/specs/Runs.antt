@@ -1,14 +1,13 @@
 -- Words one after the other at a place, as the code gives them: where a run ends or its refusal, and the numbers read so far.
 -- Assumes nothing.
-use mathlib.Core.Path.{_≡_, refl, ap}
 use mathlib.Core.Bool.{Bool}
 use mathlib.Core.List.{List, [], _∷_, _++_, map}
-use Prim.Native.Nat.{ℕ, suc, _+_, _-_}
+use Prim.Native.Nat.{ℕ, _+_, _-_}
 use lib.ListN.{length, drop}
 use Rattle.bits.specs.Bits.{view}
 use Rattle.ground.specs.Replies.{done}
 use Rattle.bits.specs.Codings.{replyOf, Coding, Answer, got, no, unword}
-use Rattle.bits.specs.Codecs.{readAll, FitAll}
+use Rattle.bits.specs.Codecs.{readAll}
 use Rattle.words.specs.Tables.{coding}
 use Rattle.words.specs.declared.Word.{Word}
 use Rattle.words.specs.declared.Word.the-variants.{At, No}
@@ -48,11 +47,3 @@ passedUp (No x) = run.No x
 abbrev pub runReply : Run → ℕ
 runReply (run.Done p) = done
 runReply (run.No x) = replyOf x
-
--- ---- what a caller of a run gets
-
-pub fit-length : (cs : List Coding) (vs : List ℕ) → FitAll cs vs → length vs ≡ length cs
-fit-length [] [] f = refl
-fit-length [] (v ∷ vs) f = absurd f
-fit-length (c ∷ cs) [] f = absurd f
-fit-length (c ∷ cs) (v ∷ vs) f = ap suc (fit-length cs vs (f .1))

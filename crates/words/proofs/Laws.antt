@@ -3,3 +3,4 @@ pub mod Answers
 pub mod Look
 pub mod Spell
 pub mod Sure
+pub mod Tables

@@ -1,15 +1,11 @@
--- What reading a word at a place answers, and the codings by kind.
+-- What reading a word at a place answers.
 -- Assumes nothing.
-use mathlib.Core.Path.{_≡_}
 use mathlib.Core.List.{List}
-use Prim.Native.Nat.{ℕ, _+_, _-_, _≤_, _<_}
-use lib.Dec.{ltb}
+use Prim.Native.Nat.{ℕ, _+_, _-_}
 use lib.ListN.{length}
-use borrow.Author.Tests.{lt-ltb, le-ltb, ltb-true, ltb-false}
-use Rattle.ground.specs.Cases.{by-bool}
 use Rattle.bits.specs.Bits.{view}
-use Rattle.bits.specs.Codings.{Answer, got, no, fixed, unword, Good, replyOf}
-use Rattle.words.specs.Tables.{column, coding, free-words}
+use Rattle.bits.specs.Codings.{Answer, got, no, unword, replyOf}
+use Rattle.words.specs.Tables.{coding}
 use Rattle.words.specs.declared.Word.{Word}
 use Rattle.words.specs.declared.Word.the-variants.{At, No}
 
@@ -26,20 +22,3 @@ wordAt s at end kind = placed at (end - at) (unword (coding kind) (view s at (en
 abbrev pub numberOf : Word → ℕ
 numberOf (At v next) = 0
 numberOf (No x) = replyOf x
-
--- ---- the codings by kind
-
-pub coding-fixed : (kind : ℕ) → kind < 16 → coding kind ≡ fixed kind
-unfolding coding
-coding-fixed kind h = rw (lt-ltb kind 16 h)
-
-pub coding-column : (kind : ℕ) → 16 ≤ kind → coding kind ≡ column (kind - 16)
-unfolding coding
-coding-column kind h = rw (le-ltb kind 16 h)
-
--- each kind's coding obeys both laws
-pub good-coding : (kind : ℕ) → Good (coding kind)
-good-coding kind =
-    by-bool (ltb kind 16)
-    (λ e. let h = ltb-true kind 16 e in rw (coding-fixed kind h) tt)
-    (λ e. let h = ltb-false kind 16 e in rw (coding-column kind h) (free-words (kind - 16)))

@@ -1,17 +1,9 @@
 -- The words as numbers, for writing: 8 times a word's value, and its length.
 -- Assumes nothing.
-use mathlib.Core.Path.{_≡_, refl}
 use mathlib.Core.List.{List, [], _∷_}
 use Prim.Native.Nat.{ℕ}
-use Rattle.bits.specs.Bits.{word}
-use Rattle.bits.specs.Codings.{fixed, wordOf}
 
-pub word-fixed : (n v : ℕ) → wordOf (fixed n) v ≡ word n v
-unfolding wordOf
-word-fixed n v = refl
-
--- ---- the words of all columns, one after the other
-
+-- the words of all columns, one after the other
 unfoldable pub spellTable : List ℕ
 spellTable =
     1 ∷ 51 ∷ 59 ∷ 18 ∷ 2 ∷ 10 ∷ 76 ∷ 133 ∷ 141 ∷ 84 ∷ 92 ∷ 26 ∷ 2 ∷ 51 ∷ 52 ∷ 60

@@ -3,10 +3,10 @@
 use mathlib.Core.Bool.{Bool, cond}
 use mathlib.Core.List.{List, [], _∷_, _++_, map}
 use Prim.Native.Nat.{ℕ, zero, suc, _-_, _^_}
-use lib.Dec.{T, ltb}
+use lib.Dec.{ltb}
 use lib.ListN.{getD, take}
 use Rattle.bits.specs.Bits.{word}
-use Rattle.bits.specs.Codings.{Coding, fixed, prefix, prefixFree, apart, apartAll}
+use Rattle.bits.specs.Codings.{Coding, fixed, prefix}
 
 -- Table 16, Huffman code for differential indices: its four columns of eight
 unfoldable pub table16 : List (List Bool)
@@ -84,12 +84,3 @@ column c = prefix (words c) (refused c)
 -- from 20 on the words of Table 16
 unfoldable pub coding : ℕ → Coding
 coding kind = cond (ltb kind 16) (fixed kind) (column (kind - 16))
-
--- no word of a column begins another, the lacking word among them
-pub free-words : (c : ℕ) → T (prefixFree (words c ++ refused c))
-unfolding words refused lacking columnOf table16 table20 prefixFree apart apartAll word
-free-words zero = tt
-free-words (suc zero) = tt
-free-words (suc (suc zero)) = tt
-free-words (suc (suc (suc zero))) = tt
-free-words (suc (suc (suc (suc n)))) = tt

@@ -12,8 +12,7 @@ use lib.ListN.{length, getD, take, drop, set, length-append, length-set, length-
 use lib.Pow.{pow-pos, pow-mono, shl-exact}
 use lib.Seq.{drop-nil, drop-drop, sets, sets-eq, length-sets, set-getD, set-out, drop-at, take-at, getD-take, getD-drop, getD-set-same, getD-set-other}
 use Rattle.bits.specs.Bits.{word, val, bit, view, bitsOf, bytesOf, laid, Bytes}
-use Rattle.bits.specs.Numbers.{val-lt, val-word, word-val, length-word}
-use Rattle.bits.proofs.Laws.Numbers.{val-append, val-front, val-back, word-mod, word-add, shifted-one}
+use Rattle.bits.proofs.Laws.Numbers.{val-lt, val-word, word-val, length-word, val-append, val-front, val-back, word-mod, word-add, shifted-one}
 use Rattle.bits.proofs.Laws.Views.{length-view, view-add, view-past, view-lt}
 use Rattle.bits.proofs.Laws.Bytes.{length-bits, length-bytes, bytes-bits, bits-bytes, view-part, same-bits}
 

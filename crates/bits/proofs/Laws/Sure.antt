@@ -13,8 +13,9 @@ use borrow.Author.Tests.{le-leb}
 use Rattle.ground.specs.Cases.{and-T}
 use Rattle.ground.proofs.Laws.Sums.{sumOf}
 use Rattle.bits.specs.Bits.{word, val}
-use Rattle.bits.specs.Numbers.{length-word}
-use Rattle.bits.specs.Codings.{Coding, fixed, Answer, got, no, unword, wordOf, Good, unword-word, word-unword}
+use Rattle.bits.proofs.Laws.Numbers.{length-word}
+use Rattle.bits.specs.Codings.{Coding, fixed, Answer, got, no, unword, wordOf}
+use Rattle.bits.proofs.Laws.Codings.{Good, unword-word, word-unword}
 use Rattle.bits.specs.Codecs.{Codec, andThen, readAll, writeAll, after, pair, within, glue, raw, rawRead}
 use Rattle.bits.specs.declared.Refusal.{Refusal}
 use Rattle.bits.specs.declared.Refusal.the-variants.{Outside}
@@ -116,13 +117,12 @@ pub raw-alone : (n : ℕ) (b : List Bool) → n ≤ length b → NormAlone (raw 
 unfolding raw rawRead
 raw-alone n b h = sound-alone (raw n .read b) (take n b) (drop n b) (rw (le-leb n (length b) h))
 
-pub pair-alone : {A B : Type 0} (k : ℕ) (c : Codec k A) (d : A → Codec 0 B) (long : (a : A) (b : B) → d a .Ok b → k ≤ length (d a .write b)) (b : List Bool)
-    → NormAlone (c .read b) → ((a : A) (r : List Bool) → c .read b ≡ got a r → NormAlone (d a .read r)) → NormAlone (pair k c d long .read b)
-pair-alone k c d long b h g =
-    then-alone (c .read b) (after k c d long) h
-    (λ a r e. then-alone (d a .read r) (λ y q. got (a, y) q) (g a r e) (λ y q f. got-alone (a, y) q))
+pub pair-alone : {A B : Type 0} (c : Codec A) (d : A → Codec B) (b : List Bool) → NormAlone (c .read b)
+    → ((a : A) (r : List Bool) → c .read b ≡ got a r → NormAlone (d a .read r)) → NormAlone (pair c d .read b)
+pair-alone c d b h g =
+    then-alone (c .read b) (after d) h (λ a r e. then-alone (d a .read r) (λ y q. got (a, y) q) (g a r e) (λ y q f. got-alone (a, y) q))
 
-pub within-alone : {A : Type 0} (k : ℕ) (c : Codec 0 A) (b : List Bool) → NormAlone (c .read (take (length b - k) b)) → NormAlone (within k c .read b)
+pub within-alone : {A : Type 0} (k : ℕ) (c : Codec A) (b : List Bool) → NormAlone (c .read (take (length b - k) b)) → NormAlone (within k c .read b)
 within-alone k c b h =
     let z = drop (length b - k) b in
-    then-alone (c .read (take (length b - k) b)) (glue k c z) h (λ a r e. got-alone a (r ++ z))
+    then-alone (c .read (take (length b - k) b)) (glue z) h (λ a r e. got-alone a (r ++ z))

@@ -23,7 +23,7 @@ use Rattle.bits.proofs.Laws.Bytes.{length-bytes}
 use Rattle.bits.proofs.Laws.Laid.{bytes-take, bytes-drop}
 use Rattle.bits.specs.Codecs.{words}
 use Rattle.words.specs.Tables.{coding}
-use Rattle.runs.specs.Runs.{fit-length}
+use Rattle.bits.proofs.Laws.Codecs.{fit-length}
 use Rattle.prefix.specs.Sizes.{tableA2, modeBytes}
 use Rattle.prefix.proofs.Laws.Sizes.{mode-bounds}
 use Rattle.prefix.specs.Prefix.{prefixOf, prefixByte, zeroR, said}
@@ -31,7 +31,8 @@ use Rattle.prefix.proofs.Laws.Prefix.{read-some, byte-said, byte-marked, said-l
 use Rattle.prefix.specs.declared.Prefix.{Prefix}
 use Rattle.prefix.specs.declared.Prefix.the-variants.{NoData}
 use Rattle.kinds.proofs.Laws.Kinds.{length-kinds}
-use Rattle.frame.specs.Layout.{Frame, frame, codesPart, kindsOf}
+use Rattle.frame.specs.Layout.{Frame, flagsIn, normsIn, codesIn, tailIn, frame, codesPart, kindsOf}
+use Rattle.frame.proofs.Laws.Layout.{frame-lawful}
 use Rattle.kinds.specs.Budget.{kindsAt}
 use Rattle.frame.specs.Answers as frame
 use Rattle.frame.specs.Answers.{Outcome, empty, sound, readAnswer, readingOf, stoppedAt, started, bodyOf}
@@ -101,13 +102,13 @@ channel-stored s c a =
     ap storedAt (sym (take-append-drop k t)) ∙ stored-front (take k t) (drop k t) a
 
 -- a sound frame has 800 codes
-sound-codes : (s : List ℕ) (m : ℕ) (x : Frame) → storedAt s ≡ sound m x → length (x .1 .1 .0) ≡ 800
+sound-codes : (s : List ℕ) (m : ℕ) (x : Frame) → storedAt s ≡ sound m x → length (codesIn x) ≡ 800
 unfolding storedAt frame codesPart words kindsOf kindsAt
 sound-codes s m x e =
     let S = answer-sound s 800 320 m x e .2 in
-    let ok = frame (modeBytes m * 8) .there (bitsOf (bodyOf (modeBytes m) s)) x [] (S .body) .1 in
-    let ks = kindsOf (modeBytes m * 8) (x .0) (x .1 .0) in
-    fit-length (map coding ks) (x .1 .1 .0) (ok .1 .1 .0) ∙ length-map ks coding ∙ length-kinds _ _
+    let ok = frame-lawful (modeBytes m * 8) .there (bitsOf (bodyOf (modeBytes m) s)) x [] (S .body) .1 in
+    let ks = kindsOf (modeBytes m * 8) (flagsIn x) (normsIn x) in
+    fit-length (map coding ks) (codesIn x) (ok .1 .1 .0) ∙ length-map ks coding ∙ length-kinds _ _
 
 -- so a part lent to a stored frame keeps its length
 module _ (f : List ℕ) (a : Stored f) where
@@ -117,7 +118,7 @@ module _ (f : List ℕ) (a : Stored f) where
       go : Stored f → length (frame.codesAfter cs (storedAt f)) ≡ 800
       go (bare e n) = ap (λ (o : Outcome). length (frame.codesAfter cs o)) e ∙ l
       go (full m x e n) =
-          ap (λ (o : Outcome). length (frame.codesAfter cs o)) e ∙ length-append (x .1 .1 .0) (drop 800 cs)
+          ap (λ (o : Outcome). length (frame.codesAfter cs o)) e ∙ length-append (codesIn x) (drop 800 cs)
           ∙ omega (arith, sound-codes f m x e, length-drop 800 cs)
 
   tail-long : (ts : List ℕ) → length ts ≡ 320 → length (frame.tailAfter ts (storedAt f)) ≡ 320
@@ -127,7 +128,7 @@ module _ (f : List ℕ) (a : Stored f) where
       go : Stored f → length (frame.tailAfter ts (storedAt f)) ≡ 320
       go (bare e n) = ap (λ (o : Outcome). length (frame.tailAfter ts o)) e ∙ l
       go (full m x e n) =
-          let b = x .1 .1 .1 .1 in
+          let b = tailIn x in
           ap (λ (o : Outcome). length (frame.tailAfter ts o)) e ∙ length-append (tailBytes b) (drop 320 ts)
           ∙ omega (arith, length-bytes 320 (b ++ replicate (2560 - length b) false), length-drop 320 ts)
 

@@ -15,7 +15,8 @@ use Rattle.bits.specs.Bits.{view, val}
 use Rattle.bits.proofs.Laws.Views.{view-lt, length-view, view-rest}
 use Rattle.bits.proofs.Laws.Bytes.{view-bits}
 use Rattle.bits.specs.Codings.{Answer, got, no, replyOf}
-use Rattle.bits.specs.Codecs.{writeAll, written-read}
+use Rattle.bits.specs.Codecs.{writeAll}
+use Rattle.bits.proofs.Laws.Codecs.{written-read}
 use Rattle.bits.specs.declared.Refusal.{Refusal}
 use Rattle.words.specs.Tables.{coding}
 use Rattle.runs.specs.Runs.{runAt, ran, readSome, over, runReply}

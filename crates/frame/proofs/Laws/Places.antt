@@ -16,7 +16,8 @@ use Rattle.bits.specs.Codecs.{Codec, andThen, within, raw, rawRead, words, read
 use Rattle.bits.specs.declared.Refusal.{Refusal}
 use Rattle.words.specs.Tables.{coding}
 use Rattle.runs.specs.Runs.{runAt}
-use Rattle.norms.specs.Part.{normPart, normBits, norms-there}
+use Rattle.norms.specs.Part.{normPart, normBits}
+use Rattle.norms.proofs.Laws.Codec.{norms-there}
 use Rattle.frame.specs.Layout.{isTransient, flagN, budgetOf, kindsOf, codeBits, tailLeft, codesPart, endingPart, frame}
 use Rattle.kinds.specs.Budget.{spare}
 
@@ -30,7 +31,7 @@ raw-at : (s : List ℕ) (p n m : ℕ) → n ≤ m → raw n .read (view s p m) �
 unfolding raw rawRead
 raw-at s p n m h = rw (length-view s p m, le-leb n m h, take-view s p n m h, drop-view s p n m h)
 
-module _ {A : Type 0} (s : List ℕ) (k p end : ℕ) (c : Codec 0 A) (h : p + k ≤ end) where
+module _ {A : Type 0} (s : List ℕ) (k p end : ℕ) (c : Codec A) (h : p + k ≤ end) where
   within-at : within k c .read (view s p (end - p)) ≡ andThen (c .read (view s p (end - k - p))) (λ a r. got a (r ++ view s (end - k) k))
   within-at =
       let m : end - p - k ≡ end - k - p = omega arith in
@@ -52,9 +53,6 @@ module _ {A : Type 0} (s : List ℕ) (k p end : ℕ) (c : Codec 0 A) (h : p + k 
 -- ---- the frame at the start of a body of `end` bits
 
 module _ (s : List ℕ) (end : ℕ) (four : 4 ≤ end) where
-  abbrev pub flagsIn : List Bool
-  flagsIn = view s 0 4
-
   flags-at : raw 4 .read (view s 0 end) ≡ got (view s 0 4) (view s 4 (end - 4))
   flags-at = raw-at s 0 4 end four ∙ ap (λ (p : ℕ). got (view s 0 4) (view s p (end - 4))) (zero-add 4)
 

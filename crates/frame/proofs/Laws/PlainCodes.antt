@@ -1,11 +1,10 @@
 -- 01: 6 is "word 1111110 in the 5-bit column", 7 is "codes go past Ψ". Our reading: with FlagC 0 there is neither 6 nor 7. All codes are fixed codes then;
--- their
--- widths are the bits that the allotment gave, at most Ψ by demand 3; and the norms find their words in any body.
+-- their widths are the bits that the allotment gave, at most Ψ by demand 3; and the norms find their words in any body.
 -- Assumes nothing.
 use mathlib.Core.Path.{_≡_, refl, sym, ap, _∙_}
 use mathlib.Core.Bool.{Bool, false}
 use mathlib.Core.List.{List, [], _∷_, map}
-use Prim.Native.Nat.{ℕ, zero, suc, _+_, _-_, _*_, _≤_, _<_, zero-le}
+use Prim.Native.Nat.{ℕ, zero, suc, _+_, _-_, _*_, _≤_, _<_}
 use native.Mathlib.Omega.{arith}
 use lib.Dec.{ltb}
 use lib.ListN.{length, getD, take, drop, length-append, length-map, List·getD-append}
@@ -17,13 +16,13 @@ use Rattle.ground.specs.Sums.{nth}
 use Rattle.ground.proofs.Laws.Sums.{sumOf}
 use Rattle.bits.specs.Bits.{bitsOf, word}
 use Rattle.bits.proofs.Laws.Bytes.{length-bits}
-use Rattle.bits.specs.Numbers.{length-word}
-use Rattle.bits.specs.Codings.{Coding, fixed, Answer, got, no, wordOf, word-unword, replyOf}
+use Rattle.bits.proofs.Laws.Numbers.{length-word}
+use Rattle.bits.specs.Codings.{Coding, fixed, Answer, got, no, wordOf, replyOf}
+use Rattle.bits.proofs.Laws.Codings.{word-unword, word-fixed}
 use Rattle.bits.specs.Codecs.{coded, words, raw, within, readAll, writeAll}
 use Rattle.bits.proofs.Laws.Sure.{fixed-sure, read-sure, all-fixed, fixed-bits, NormAlone, sound-alone, coded-alone, raw-alone, pair-alone, within-alone}
 use Rattle.words.specs.Tables.{coding}
-use Rattle.words.specs.Spell.{word-fixed}
-use Rattle.runs.specs.Runs.{fit-length}
+use Rattle.bits.proofs.Laws.Codecs.{raw-lawful, within-lawful, fit-length}
 use Rattle.words.proofs.Laws.Sure.{fixed-kinds}
 use Rattle.weights.specs.Weights.{nthZ, scoresOf}
 use Rattle.contest.specs.Bands.{lengthOf, competing}
@@ -34,16 +33,18 @@ use Rattle.prefix.specs.Sizes.{lengthBytes}
 use Rattle.prefix.specs.Prefix.{prefixOf}
 use Rattle.prefix.specs.declared.Prefix.{Prefix}
 use Rattle.prefix.specs.declared.Prefix.the-variants.{Data, NoData, NoByte, Marked, Reserved}
-use Rattle.norms.specs.Part.{Writable, normBits, normPart, norms-there}
+use Rattle.norms.specs.Part.{Writable, normBits, normPart}
+use Rattle.norms.proofs.Laws.Codec.{norms-there}
 use Rattle.norms.proofs.Laws.Part.{norm-bits}
 use Rattle.norms.proofs.Laws.Answers.{writable-range}
 use Rattle.norms.proofs.Laws.Sure.{norms-alone}
 use Rattle.kinds.specs.Kinds.{kinds}
-use Rattle.frame.specs.Layout.{Frame, isTransient, flagL, flagN, flagC, budgetOf, kindsOf, codeBits, tailLeft, codesPart, endingPart, ending-long}
+use Rattle.frame.specs.Layout.{Frame, isTransient, flagL, flagN, flagC, budgetOf, kindsOf, codeBits, tailLeft, codesPart, endingPart}
 use Rattle.frame.specs.Layout.{restPart, normsAndRest, frame}
 use Rattle.kinds.specs.Budget.{spare, wideIn, kindsAt}
 use Rattle.kinds.proofs.Laws.Budget.{spare-le}
 use Rattle.kinds.proofs.Laws.Fixed.{kinds-sum, kinds-small}
+use Rattle.frame.proofs.Laws.Layout.{codes-lawful}
 use Rattle.frame.proofs.Laws.Reads.{read-codes-short, read-tail-short, read-started, data-cut, data-whole, length-body, field-sized}
 use Rattle.frame.specs.Answers.{refused, outcome, readBody, bodyOf, started, readAnswer}
 
@@ -98,7 +99,7 @@ module _ (total : ℕ) (flags : List Bool) (norms : List ℕ) (c : flagC flags �
   ending-alone vs r l =
       let n = spare t in
       let m = tailLeft total flags norms vs in
-      pair-alone 0 (coded (fixed n) tt) (λ z. raw m) (λ a b f. zero-le) r (coded-alone n (fixed n) (fixed-sure n) r (omega arith))
+      pair-alone (coded (fixed n)) (λ z. raw m) r (coded-alone n (fixed n) (fixed-sure n) r (omega arith))
       (λ z q e.
       raw-alone m q
       (omega (arith, ap length (word-unword (fixed n) r z q e .0), length-append (wordOf (fixed n) z) q, ap length (word-fixed n z), length-word n z)))
@@ -109,10 +110,10 @@ module _ (total : ℕ) (flags : List Bool) (norms : List ℕ) (c : flagC flags �
       let n = spare t in
       let part = codesPart total flags norms in
       let m = length q - n in
-      pair-alone n (within n part) (endingPart total flags norms) (ending-long total flags norms) q
+      pair-alone (within n part) (endingPart total flags norms) q
       (within-alone n part q (codes-alone (take m q) (omega (arith, length-take-le m q (omega arith)))))
       (λ vs r e.
-      let o = within n part .there q vs r e in
+      let o = within-lawful n (codes-lawful total flags norms) .there q vs r e in
       ending-alone vs r
       (omega (
         arith,
@@ -129,7 +130,7 @@ module _ (total : ℕ) (least : 640 ≤ total) (most : total ≤ 2560) where
   norms-rest flags r c l =
       let t = isTransient flags in
       let n = flagN flags in
-      pair-alone 0 (normPart t n) (restPart total flags) (λ a b f. zero-le) r (norms-alone t n r (omega arith))
+      pair-alone (normPart t n) (restPart total flags) r (norms-alone t n r (omega arith))
       (λ norms q e.
       let o = norms-there t n r norms q e in
       let b = norm-bits t n norms (o .1) .1 in
@@ -138,9 +139,9 @@ module _ (total : ℕ) (least : 640 ≤ total) (most : total ≤ 2560) where
   frame-alone : (b : List Bool) → length b ≡ total → getD b 3 false ≡ false → NormAlone (frame total .read b)
   unfolding frame raw
   frame-alone b l c =
-      pair-alone 0 (raw 4) (normsAndRest total) (λ a b f. zero-le) b (raw-alone 4 b (omega arith))
+      pair-alone (raw 4) (normsAndRest total) b (raw-alone 4 b (omega arith))
       (λ flags r e.
-      let o = raw 4 .there b flags r e in
+      let o = raw-lawful 4 .there b flags r e in
       let four : length flags ≡ 4 = o .1 in
       let flag : getD flags 3 false ≡ false = sym (List·getD-append flags r false 3 (omega arith)) ∙ ap (λ (z : List Bool). getD z 3 false) (sym (o .0)) ∙ c in
       norms-rest flags r flag (omega (arith, ap length (o .0), length-append flags r)))

@@ -2,7 +2,7 @@
 -- Assumes nothing.
 use mathlib.Core.Path.{_≡_, refl, sym, ap, ap₂, _∙_}
 use mathlib.Core.Bool.{Bool, true, false}
-use mathlib.Core.List.{List, _∷_}
+use mathlib.Core.List.{List}
 use Prim.Native.Nat.{ℕ, _+_, _-_, _*_, _≤_, _<_, min}
 use native.Mathlib.Omega.{arith}
 use lib.Dec.{eqb}
@@ -16,7 +16,8 @@ use Rattle.bits.proofs.Laws.Bytes.{view-bits}
 use Rattle.bits.specs.Codings.{Answer, got, no, replyOf}
 use Rattle.bits.specs.declared.Refusal.{Refusal}
 use Rattle.bits.specs.declared.Refusal.the-variants.{Outside, Missing, Past}
-use Rattle.norms.specs.Part.{normPart, normBits, norms-there}
+use Rattle.norms.specs.Part.{normPart, normBits}
+use Rattle.norms.proofs.Laws.Codec.{norms-there}
 use Rattle.norms.proofs.Laws.Part.{norm-bits}
 use Rattle.norms.specs.Answers.{partOf}
 use Rattle.norms.specs.declared.NormPart.{NormPart}

@@ -2,7 +2,7 @@
 -- Assumes nothing.
 use mathlib.Core.Path.{_≡_, ap, _∙_, subst⁻¹}
 use mathlib.Core.Bool.{Bool, true, false}
-use mathlib.Core.List.{List, [], _∷_}
+use mathlib.Core.List.{List}
 use Prim.Native.Nat.{ℕ, _≤_, min}
 use lib.ListN.{length, getD, set, replicate}
 use native.Mathlib.Omega.{arith}
@@ -10,8 +10,8 @@ use Rattle.ground.proofs.Laws.Fills.{everywhere}
 use Rattle.ground.specs.Indices.{inRange}
 use Rattle.ground.proofs.Laws.Indices.{range-at}
 use Rattle.ground.specs.Replies.{done, outOfRange}
-use Rattle.order.specs.Order.{sent, banded, length-sent, length-banded, sent-banded, banded-sent}
-use Rattle.order.proofs.Laws.Order.{sent-each}
+use Rattle.order.specs.Order.{sent, banded}
+use Rattle.order.proofs.Laws.Order.{length-sent, length-banded, sent-banded, banded-sent, sent-each}
 use Rattle.norms.specs.Steps.{Near}
 use Rattle.legal.specs.Legal.{legalOf, legalSent, capped, lowered, held}
 use Rattle.legal.proofs.Laws.Legal.{capped-le, length-capped, legal-near, legal-same, length-legal}

@@ -14,10 +14,10 @@ use Rattle.ground.proofs.Laws.Indices.{range-yes, range-at}
 use Rattle.ground.specs.Replies.{done, outOfRange, farApart}
 use Rattle.bits.specs.Codecs.{writeAll}
 use Rattle.words.specs.Tables.{coding}
-use Rattle.order.specs.Order.{sent, length-sent}
-use Rattle.order.proofs.Laws.Order.{sent-first, sent-each, each-sent}
-use Rattle.norms.specs.Steps.{stepsClose, Near, length-numbers}
-use Rattle.norms.proofs.Laws.Steps.{near-range, near-first, steps-near}
+use Rattle.order.specs.Order.{sent}
+use Rattle.order.proofs.Laws.Order.{length-sent, sent-first, sent-each, each-sent}
+use Rattle.norms.specs.Steps.{stepsClose, Near}
+use Rattle.norms.proofs.Laws.Steps.{length-numbers, near-range, near-first, steps-near}
 use Rattle.norms.specs.Part.{numbersOf, normKinds, normBits, Writable}
 use Rattle.norms.proofs.Laws.Part.{bits-split}
 use Rattle.norms.specs.Answers.{normReply, wordTotal, choiceOf}

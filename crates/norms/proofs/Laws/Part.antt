@@ -1,4 +1,4 @@
--- Laws of specs/Part.
+-- The bits of the norm part as the code makes them, and how many they are.
 -- Assumes nothing.
 use mathlib.Core.Path.{_≡_, ap, ap₂, _∙_}
 use mathlib.Core.Bool.{Bool, true, false, cond, _&&_}
@@ -10,17 +10,18 @@ use lib.ListN.{length, getD, replicate, length-append}
 use Rattle.ground.specs.Cases.{and-T}
 use Rattle.ground.specs.Tables.{every, every-at}
 use Rattle.bits.specs.Bits.{word, laid}
-use Rattle.bits.specs.Numbers.{length-word}
+use Rattle.bits.proofs.Laws.Numbers.{length-word}
 use Rattle.bits.specs.Codings.{Coding, wordOf, Fit}
 use Rattle.bits.specs.Codecs.{words, writeAll, FitAll}
 use Rattle.words.specs.Tables.{coding, table16, words as wordsOf}
-use Rattle.words.specs.Answers.{coding-fixed, coding-column}
-use Rattle.words.specs.Spell.{word-fixed}
+use Rattle.words.proofs.Laws.Tables.{coding-fixed, coding-column}
+use Rattle.bits.proofs.Laws.Codings.{word-fixed}
 use Rattle.words.proofs.Laws.Spell.{word-column}
 use Rattle.runs.proofs.Laws.Writes.{run-few}
 use Rattle.order.specs.Order.{sent}
 use Rattle.norms.specs.Steps.{numbers}
-use Rattle.norms.specs.Part.{normKinds, Writable, numbersOf, normBits, kinds-long, norms-whole}
+use Rattle.norms.specs.Part.{normKinds, Writable, numbersOf, normBits}
+use Rattle.norms.proofs.Laws.Codec.{kinds-long, norms-whole}
 
 pub kinds-plain : (flagN : Bool) → flagN ≡ false → replicate 44 5 ≡ normKinds flagN
 unfolding normKinds

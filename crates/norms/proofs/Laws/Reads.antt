@@ -20,7 +20,8 @@ use Rattle.runs.specs.declared.Run.{Run}
 use Rattle.runs.specs.declared.Run.the-variants as run
 use Rattle.order.specs.Order.{banded}
 use Rattle.norms.specs.Steps.{indices, guarded}
-use Rattle.norms.specs.Part.{normKinds, normPart, kinds-long, part-no, part-bad, part-got}
+use Rattle.norms.specs.Part.{normKinds, normPart}
+use Rattle.norms.proofs.Laws.Codec.{kinds-long, part-no, part-bad, part-got}
 use Rattle.norms.specs.Answers.{partOf}
 use Rattle.norms.specs.Inner.{indicesOf}
 use Rattle.norms.specs.declared.Indices.{Indices}

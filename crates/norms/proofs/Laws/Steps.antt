@@ -1,7 +1,7 @@
--- Laws of specs/Steps.
+-- Indices and the numbers that are sent lead into each other, numbers by place, and the tests of the steps.
 -- Assumes nothing.
-use mathlib.Core.Path.{_≡_, refl, _∙_}
-use mathlib.Core.Bool.{true, _&&_}
+use mathlib.Core.Path.{_≡_, refl, ap, ap₂, _∙_, subst}
+use mathlib.Core.Bool.{Bool, true, false, _&&_}
 use mathlib.Core.List.{List, [], _∷_}
 use Prim.Native.Nat.{ℕ, zero, suc, _+_, _-_, _≤_, _<_}
 use native.Mathlib.Nat.{le-of-suc-le-suc}
@@ -11,7 +11,49 @@ use lib.ListN.{length, getD}
 use borrow.Author.Tests.{le-leb, leb-true}
 use Rattle.ground.proofs.Laws.Cases.{and-true}
 use Rattle.ground.specs.Fills.{table, filled}
-use Rattle.norms.specs.Steps.{numbers, Near, close, stepsClose, length-numbers}
+use Rattle.bits.specs.Codecs.{Check, fine, bad}
+use Rattle.norms.specs.Steps.{numbers, guarded, indices, Near, close, stepsClose}
+
+-- ---- there and back
+
+abbrev pub Below : List ℕ → Type 0
+Below [] = Unit {0}
+Below (w ∷ ws) = (w < 32) × Below ws
+
+guarded-fine : (a b : Bool) (y : ℕ) (c : Check (List ℕ)) (zs : List ℕ) → guarded a b y c ≡ fine zs
+    → (ys : List ℕ) × (a ≡ true) × (b ≡ true) × (c ≡ fine ys) × (y ∷ ys ≡ zs)
+guarded-fine true true y (fine ys) zs e = (ys, refl, refl, refl, (cc))
+guarded-fine true true y (bad k) zs e = absurd (let z : _≡_ {A = ℕ} 0 1 = cc in omega arith)
+guarded-fine true false y c zs e = absurd (let z : _≡_ {A = ℕ} 0 1 = cc in omega arith)
+guarded-fine false t y c zs e = absurd (let z : _≡_ {A = ℕ} 0 1 = cc in omega arith)
+
+pub indices-sound : (x : ℕ) (ws zs : List ℕ) → Below ws → indices x ws ≡ fine zs → (numbers x zs ≡ ws) × Near x zs
+unfolding indices numbers
+indices-sound x [] zs l e = let q : _≡_ {A = List ℕ} [] zs = cc in subst (λ (z : List ℕ). (numbers x z ≡ []) × Near x z) q (refl, tt)
+indices-sound x (w ∷ ws) zs l e =
+    let (ys, a, b, c, q) = guarded-fine (leb 15 (x + w)) (leb (x + w) 54) (x + w - 15) (indices (x + w - 15) ws) zs e in
+    let lo = leb-true 15 (x + w) a in
+    let hi = leb-true (x + w) 54 b in
+    let r = indices-sound (x + w - 15) ws ys (l .1) c in
+    let back : x + w - 15 + 15 - x ≡ w = omega arith in
+    subst (λ (z : List ℕ). (numbers x z ≡ w ∷ ws) × Near x z) q
+    (ap₂ _∷_ back (r .0), (omega arith, omega arith, omega (arith, l .0), r .1))
+
+pub indices-whole : (x : ℕ) (ys : List ℕ) → Near x ys → (indices x (numbers x ys) ≡ fine ys) × Below (numbers x ys)
+unfolding indices numbers
+indices-whole x [] n = (refl, tt)
+indices-whole x (y ∷ ys) n =
+    let r = indices-whole y ys (n .3) in
+    let e : x + (y + 15 - x) ≡ y + 15 = omega (arith, n .1) in
+    let b : y + 15 - 15 ≡ y = omega arith in
+    (rw (e, b, le-leb 15 (y + 15) (omega arith), le-leb (y + 15) 54 (omega (arith, n .0)), r .0), (omega (arith, n .2), r .1))
+
+-- ---- numbers by place
+
+pub length-numbers : (x : ℕ) (ys : List ℕ) → length (numbers x ys) ≡ length ys
+unfolding numbers
+length-numbers x [] = refl
+length-numbers x (y ∷ ys) = ap suc (length-numbers y ys)
 
 -- the number at place i, from the index there and the one before
 abbrev pub numberAt : List ℕ → ℕ → ℕ

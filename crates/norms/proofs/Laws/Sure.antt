@@ -15,7 +15,8 @@ use Rattle.words.specs.Tables.{coding}
 use Rattle.words.proofs.Laws.Sure.{sure-fixed, sure-16}
 use Rattle.order.specs.Order.{banded}
 use Rattle.norms.specs.Steps.{indices}
-use Rattle.norms.specs.Part.{normKinds, normPart, part-bad, part-got}
+use Rattle.norms.specs.Part.{normKinds, normPart}
+use Rattle.norms.proofs.Laws.Codec.{part-bad, part-got}
 use Rattle.norms.proofs.Laws.Reads.{indices-bad}
 
 -- the most bits of each of the 44 numbers

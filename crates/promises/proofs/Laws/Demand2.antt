@@ -18,6 +18,7 @@ use Rattle.prefix.proofs.Laws.Prefix.{read-some, r-ignored, read-written}
 use Rattle.prefix.specs.declared.Prefix.the-variants.{Data}
 use Rattle.kinds.specs.Kinds.{kinds}
 use Rattle.frame.specs.Layout.{Frame, frame, kindsOf}
+use Rattle.frame.proofs.Laws.Layout.{frame-lawful}
 use Rattle.kinds.specs.Budget.{kindsAt}
 use Rattle.frame.specs.Answers.{Outcome, refused, empty, sound, outcome, readBody, readAnswer, readingOf, codesAfter, tailAfter}
 use Rattle.frame.proofs.Laws.Reads.{read-started, data-whole}
@@ -133,7 +134,7 @@ read-exactly mode x f rest codes tail hm hx k l hc ht =
     ∙ data-whole src (record { 0 = mode + 8 }) n (sym (Rattle.prefix.proofs.Laws.Sizes.length-bytes mode hm)) s
     ∙ ap₂ readBody e (take-at b rest n lb)
     ∙ ap₂ (λ (i : ℕ) (y : List Bool). outcome mode (frame (i * 8) .read y)) lb (bits-bytes n w l ∙ sym (append-nil w))
-    ∙ ap (outcome mode) (frame (n * 8) .back f [] k zero-le)
+    ∙ ap (outcome mode) (frame-lawful (n * 8) .back f [] k zero-le)
 
 -- the reply of a reading that is refused is its number; the others are 0 and 14
 plain-read : (src : List ℕ) (codes tail : ℕ) → getD (bitsOf (drop 1 src)) 3 false ≡ false → (o : Outcome) → readAnswer src codes tail ≡ o

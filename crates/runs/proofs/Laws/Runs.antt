@@ -10,8 +10,10 @@ use lib.ListN.{length, take, drop, getD, set, length-append, length-set, length-
 use lib.Seq.{drop-cons, take-suc-set, drop-set-lt, drop-append-seam, drop-drop, length-take-le}
 use Rattle.bits.specs.Bits.{view}
 use Rattle.bits.proofs.Laws.Views.{length-view, drop-view}
-use Rattle.bits.specs.Codings.{Coding, Answer, got, no, unword, wordOf, word-unword}
-use Rattle.bits.specs.Codecs.{readAll, andThen, andThen-got, writeAll, written-read}
+use Rattle.bits.specs.Codings.{Coding, Answer, got, no, unword, wordOf}
+use Rattle.bits.proofs.Laws.Codings.{word-unword}
+use Rattle.bits.specs.Codecs.{readAll, andThen, writeAll}
+use Rattle.bits.proofs.Laws.Codecs.{andThen-got, written-read, fit-length}
 use Rattle.bits.specs.declared.Refusal.{Refusal}
 use Rattle.words.specs.Tables.{coding}
 use Rattle.words.specs.Answers.{placed, wordAt}
@@ -19,7 +21,7 @@ use Rattle.words.specs.declared.Word.{Word}
 use Rattle.words.specs.declared.Word.the-variants.{At, No}
 use Rattle.runs.specs.declared.Run.{Run}
 use Rattle.runs.specs.declared.Run.the-variants as run
-use Rattle.runs.specs.Runs.{runAt, ran, more, someOf, readSome, over, passedUp, fit-length}
+use Rattle.runs.specs.Runs.{runAt, ran, more, someOf, readSome, over, passedUp}
 
 -- ---- a word at a place
 

@@ -11,7 +11,7 @@ use Rattle.ground.specs.Fills.{from, table}
 use Rattle.ground.proofs.Laws.Runs.{Fronted, fronted-none, fronted-more}
 use Rattle.bits.specs.Bits.{view, val, bytesOf, word, laid, Bytes}
 use Rattle.bits.proofs.Laws.Views.{length-view, view-add, view-lt, take-view, drop-view, view-past}
-use Rattle.bits.specs.Numbers.{word-val}
+use Rattle.bits.proofs.Laws.Numbers.{word-val}
 use Rattle.bits.proofs.Laws.Laid.{laid-append, laid-none, length-laid}
 use Rattle.tails.specs.Tails.{tailBytes, tailFrom, clear}
 

@@ -13,7 +13,8 @@ use Rattle.bits.proofs.Laws.Codings.{fixed-fine, fixed-short}
 use Rattle.bits.specs.declared.Refusal.the-variants.{Past}
 use Rattle.words.specs.Tables.{words, refused, column, coding}
 use Rattle.words.specs.declared.Word.the-variants.{At, No}
-use Rattle.words.specs.Answers.{placed, wordAt, coding-fixed, coding-column}
+use Rattle.words.specs.Answers.{placed, wordAt}
+use Rattle.words.proofs.Laws.Tables.{coding-fixed, coding-column}
 
 -- every column from 4 on is Table 16
 pub column-last : (c : ℕ) → 4 ≤ c → column c ≡ column 4

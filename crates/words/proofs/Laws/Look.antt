@@ -12,12 +12,13 @@ use borrow.Author.Tests.{eq-eqb, ne-eqb}
 use Rattle.ground.specs.Cases.{and-T}
 use Rattle.ground.specs.Tables.{every-at}
 use Rattle.bits.specs.Bits.{word, val, view}
-use Rattle.bits.specs.Numbers.{word-val}
+use Rattle.bits.proofs.Laws.Numbers.{word-val}
 use Rattle.bits.proofs.Laws.Views.{length-view, view-add, take-view, view-lt}
-use Rattle.bits.specs.Codings.{got, no, unword, find, find-word}
-use Rattle.bits.proofs.Laws.Codings.{find-cut, found-fine, found-refused, found-cut}
+use Rattle.bits.specs.Codings.{got, no, unword, find}
+use Rattle.bits.proofs.Laws.Codings.{find-word, find-cut, found-fine, found-refused, found-cut}
 use Rattle.bits.specs.declared.Refusal.the-variants.{Missing, Past}
-use Rattle.words.specs.Tables.{words, refused, lacking, column, columnOf, table16, table20, free-words}
+use Rattle.words.specs.Tables.{words, refused, lacking, column, columnOf, table16, table20}
+use Rattle.words.proofs.Laws.Tables.{free-words}
 use Rattle.words.specs.declared.Word.the-variants.{At, No}
 use Rattle.words.specs.Answers.{placed}
 use Rattle.words.specs.Inner.{same, begins, right}

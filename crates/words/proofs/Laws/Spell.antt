@@ -11,17 +11,17 @@ use lib.ListN.{length, getD, take, drop, length-take, length-drop, List·getD-eq
 use lib.Seq.{getD-take, getD-drop}
 use Rattle.ground.specs.Tables.{every, every-at}
 use Rattle.bits.specs.Bits.{word, val, laid, Bytes}
-use Rattle.bits.specs.Numbers.{word-val, length-word}
+use Rattle.bits.proofs.Laws.Numbers.{word-val, length-word, shifted-one}
 use Rattle.bits.proofs.Laws.Laid.{laid-none}
-use Rattle.bits.proofs.Laws.Numbers.{shifted-one}
 use Rattle.ground.specs.Cases.{by-bool, and-T}
 use borrow.Author.Tests.{ltb-true, ltb-false}
 use Rattle.bits.specs.Codings.{Coding, wordOf, fit}
 use Rattle.words.specs.Tables.{words, column, coding, columnOf, table16, table20}
-use Rattle.words.specs.Answers.{coding-fixed, coding-column}
+use Rattle.words.proofs.Laws.Tables.{coding-fixed, coding-column}
 use Rattle.words.proofs.Laws.Answers.{coding-found}
 use Rattle.words.specs.Inner.{packed, startOf}
-use Rattle.words.specs.Spell.{word-fixed, spellTable}
+use Rattle.bits.proofs.Laws.Codings.{word-fixed}
+use Rattle.words.specs.Spell.{spellTable}
 
 pub start-next : (c : ℕ) → startOf (suc c) ≡ startOf c + length (words c)
 unfolding startOf

@@ -9,8 +9,8 @@ use lib.ListN.{getD}
 use Rattle.bits.specs.Bits.{word}
 use Rattle.bits.specs.Codings.{fixed, unword, find, strip}
 use Rattle.bits.proofs.Laws.Sure.{Sure, fixed-sure, anyBits, found, sure-tested}
-use Rattle.words.specs.Tables.{words, refused, column, coding, table16, free-words}
-use Rattle.words.specs.Answers.{coding-fixed, coding-column}
+use Rattle.words.specs.Tables.{words, refused, column, coding, table16}
+use Rattle.words.proofs.Laws.Tables.{free-words, coding-fixed, coding-column}
 
 pub sure-fixed : (kind : ℕ) → kind < 16 → Sure kind (coding kind)
 sure-fixed kind h = subst⁻¹ (Sure kind) (coding-fixed kind h) (fixed-sure kind)

@@ -11,24 +11,26 @@ use lib.ListN.{length, take, drop, set, length-append}
 use Rattle.ground.specs.Cases.{by-bool}
 use Rattle.ground.specs.Replies.{done}
 use Rattle.bits.specs.Bits.{num, word, view, laid, bytesOf, Bytes}
-use Rattle.bits.specs.Numbers.{length-word}
+use Rattle.bits.proofs.Laws.Numbers.{length-word}
 use Rattle.bits.proofs.Laws.Views.{length-view}
 use Rattle.bits.proofs.Laws.Laid.{laid-append, laid-behind}
 use Rattle.bits.specs.Codecs.{writeAll, words, raw}
 use Rattle.words.specs.Tables.{coding}
-use Rattle.words.specs.Spell.{word-fixed}
+use Rattle.bits.proofs.Laws.Codings.{word-fixed}
 use Rattle.prefix.specs.Sizes.{modeBytes}
 use Rattle.prefix.proofs.Laws.Sizes.{mode-bounds}
 use Rattle.prefix.specs.Prefix.{byteWith, byteOf}
 use Rattle.prefix.proofs.Laws.Prefix.{byte-mode}
 use Rattle.prefix.specs.declared.Byte.{Byte}
 use Rattle.prefix.specs.declared.Byte.the-variants as Byte
-use Rattle.norms.specs.Part.{normBits, Writable, write-is, ok-writable}
+use Rattle.norms.specs.Part.{normBits, Writable}
+use Rattle.norms.proofs.Laws.Codec.{write-is, ok-writable}
 use Rattle.norms.proofs.Laws.Part.{norm-bits}
 use Rattle.norms.proofs.Laws.Answers.{writable-reply}
 use Rattle.kinds.specs.Budget.{spare}
 use Rattle.kinds.proofs.Laws.Budget.{spare-le}
-use Rattle.frame.specs.Layout.{budgetOf, codeBits, tailLeft, codesPart, frame, frame-bits}
+use Rattle.frame.specs.Layout.{budgetOf, codeBits, tailLeft, codesPart, frame}
+use Rattle.frame.proofs.Laws.Layout.{frame-bits}
 use Rattle.frame.specs.declared.Record.{Record}
 use Rattle.writer.specs.Tests.{quietOf}
 use Rattle.layout.proofs.Laws.Fits.{fits-all, all-fits}

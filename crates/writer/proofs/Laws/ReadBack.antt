@@ -20,6 +20,7 @@ use Rattle.prefix.specs.Prefix.{byteWith}
 use Rattle.prefix.proofs.Laws.Prefix.{read-written}
 use Rattle.prefix.specs.declared.Prefix.{Prefix}
 use Rattle.frame.specs.Layout.{frame, budgetOf}
+use Rattle.frame.proofs.Laws.Layout.{frame-lawful}
 use Rattle.frame.specs.Answers.{sound, outcome, readBody, started, readAnswer, readingOf, codesAfter, tailAfter}
 use Rattle.tails.specs.Tails.{tailBytes, clear}
 use Rattle.frame.specs.declared.Record.{Record}
@@ -64,7 +65,7 @@ module _ (r : Record) (cs ts : List ℕ) (room : ℕ) (l : length (r .norms) ≡
       let w = frame (total r) .write x in
       ap₂ (λ (k : ℕ) (b : List Bool). outcome (r .mode) (frame (k * 8) .read b)) (length-bytes n w) (bits-bytes n w (meant-long r cs ts room l P)
       ∙ sym (append-nil w))
-      ∙ ap (outcome (r .mode)) (frame (total r) .back x [] (meant r cs ts room l P) zero-le)
+      ∙ ap (outcome (r .mode)) (frame-lawful (total r) .back x [] (meant r cs ts room l P) zero-le)
 
   -- the bytes written, with anything behind them, are read as the frame
   pub answer-back : (rest : List ℕ) (codes tail : ℕ) → 800 ≤ codes → 320 ≤ tail

@@ -16,20 +16,22 @@ use Rattle.bits.proofs.Laws.Bytes.{length-bytes, bits-bytes, bytes-bits, length
 use Rattle.bits.proofs.Laws.Laid.{bits-append, bytes-drop, bytes-take}
 use Rattle.bits.proofs.Laws.Views.{view-rest, view-front}
 use Rattle.bits.specs.Codings.{Answer, got, no}
-use Rattle.bits.specs.Codecs.{FitAll, words, raw, writeAll}
+use Rattle.bits.specs.Codecs.{FitAll, words, raw}
 use Rattle.words.specs.Tables.{coding}
-use Rattle.runs.specs.Runs.{fit-length}
+use Rattle.bits.proofs.Laws.Codecs.{fit-length}
 use Rattle.prefix.specs.Sizes.{modeBytes, lengthBytes}
 use Rattle.prefix.proofs.Laws.Sizes.{mode-bounds, a2-between}
 use Rattle.prefix.specs.Prefix.{prefixOf, byteWith, zeroR}
 use Rattle.prefix.proofs.Laws.Prefix.{prefix-data, prefix-mode}
 use Rattle.prefix.specs.declared.Prefix.{Prefix}
 use Rattle.prefix.specs.declared.Prefix.the-variants.{Data, NoData, NoByte, Marked, Reserved}
-use Rattle.norms.specs.Part.{Writable, writable-ok}
+use Rattle.norms.specs.Part.{Writable}
+use Rattle.norms.proofs.Laws.Codec.{writable-ok}
 use Rattle.norms.proofs.Laws.Part.{norm-bits}
 use Rattle.norms.proofs.Laws.Answers.{reply-writable}
 use Rattle.kinds.proofs.Laws.Kinds.{length-kinds}
-use Rattle.frame.specs.Layout.{Frame, frame, frame-whole, frame-bits, budgetOf, kindsOf, codeBits, tailLeft, codesPart}
+use Rattle.frame.specs.Layout.{Frame, flagsIn, frame, budgetOf, kindsOf, codeBits, tailLeft, codesPart}
+use Rattle.frame.proofs.Laws.Layout.{frame-lawful, frame-whole, frame-bits}
 use Rattle.kinds.specs.Budget.{spare, kindsAt}
 use Rattle.kinds.proofs.Laws.Budget.{spare-le}
 use Rattle.frame.proofs.Laws.Reads.{read-codes-short, read-tail-short, read-started, data-cut, data-whole, length-body}
@@ -37,7 +39,6 @@ use Rattle.frame.specs.Answers.{sound, outcome, readBody, bodyOf, started, read
 use Rattle.tails.specs.Tails.{tailBytes, clear}
 use Rattle.frame.specs.declared.Record.{Record}
 use Rattle.writer.specs.Tests.{quietOf}
-use Rattle.layout.proofs.Laws.Fits.{all-fits}
 use Rattle.layout.specs.Parts.{budgetFor, kindsFor, codesLong}
 use Rattle.writer.specs.Writes.{frameOf, bytesFor, writeReply}
 use Rattle.writer.specs.Bodies.{Passed}
@@ -110,11 +111,11 @@ answer-sound src c t mode x e =
     (h, l, started-sound src mode x (prefixOf src) refl (sym (read-started src c t h l (prefixOf src) refl) ∙ e))))
 
 -- a frame has four flags
-four-flags : (src : List ℕ) (c t mode : ℕ) (x : Frame) → readAnswer src c t ≡ sound mode x → length (x .0) ≡ 4
+four-flags : (src : List ℕ) (c t mode : ℕ) (x : Frame) → readAnswer src c t ≡ sound mode x → length (flagsIn x) ≡ 4
 unfolding frame raw
 four-flags src c t mode x e =
     let s = answer-sound src c t mode x e .2 in
-    frame (modeBytes mode * 8) .there (bitsOf (bodyOf (modeBytes mode) src)) x [] (s .body) .1 .0
+    frame-lawful (modeBytes mode * 8) .there (bitsOf (bodyOf (modeBytes mode) src)) x [] (s .body) .1 .0
 
 -- ---- the lent slices after a reading
 
@@ -168,7 +169,7 @@ module _ (mode : ℕ) (a b c d : Bool) (ns vs : List ℕ) (z : ℕ) (tb : List B
 
   ok : frame t .Ok x
   unfolding x t
-  ok = frame t .there (bitsOf (bodyOf (modeBytes mode) src)) x [] (S .body) .1
+  ok = frame-lawful t .there (bitsOf (bodyOf (modeBytes mode) src)) x [] (S .body) .1
 
   ok-norms : Writable a ns
   unfolding frame x t
@@ -208,7 +209,7 @@ module _ (mode : ℕ) (a b c d : Bool) (ns vs : List ℕ) (z : ℕ) (tb : List B
   unfolding f x t tailLeft budgetOf
   paid =
       let body = bodyOf (modeBytes mode) src in
-      let e = frame t .there (bitsOf body) x [] (S .body) .0 in
+      let e = frame-lawful t .there (bitsOf body) x [] (S .body) .0 in
       omega (
         arith,
         frame-bits t x ok,
@@ -257,7 +258,7 @@ module _ (mode : ℕ) (a b c d : Bool) (ns vs : List ℕ) (z : ℕ) (tb : List B
   bytes-return k =
       let n = modeBytes mode in
       let body = bodyOf n src in
-      let e = frame t .there (bitsOf body) x [] (S .body) .0 in
+      let e = frame-lawful t .there (bitsOf body) x [] (S .body) .0 in
       ap₂ (λ (b : ℕ) (l : List ℕ). b ∷ l) (S .first (k 0)) (ap (λ (y : Frame). bytesOf n (frame t .write y)) same-frame
       ∙ ap (bytesOf n) (sym (append-nil (frame t .write x)) ∙ sym e)
       ∙ ap (λ (j : ℕ). bytesOf j (bitsOf body)) (sym (length-body src n (S .long))) ∙ bytes-bits body (bytes-body n src k))
