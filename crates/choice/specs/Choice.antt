@@ -8,7 +8,7 @@ use lib.ListN.{length, getD, take}
 use Rattle.ground.specs.Replies.{done, wideCode}
 use Rattle.ground.specs.Sums.{sumTo}
 use Rattle.bits.specs.Codings.{wordOf}
-use Rattle.words.specs.Tables.{coding}
+use Rattle.words.specs.Tables.{coding, codeWords}
 use Rattle.norms.specs.declared.Choice.{Choice}
 use Rattle.allotment.specs.Allotment.{sharesOf}
 use Rattle.kinds.specs.Kinds.{bandOf}
@@ -21,9 +21,9 @@ use Rattle.layout.specs.Parts.{total, budgetFor, kindsFor, firstOf, startReply}
 unfoldable pub wordy : ℕ → Bool
 wordy rate = leb 2 rate && leb rate 5
 
--- what a number costs there: as a word of Table 20 (kind rate + 14), and as a fixed code
+-- what a number costs there: as a word of Table 20, and as a fixed code
 unfoldable pub asWord : ℕ → ℕ → ℕ
-asWord rate v = cond (wordy rate) (length (wordOf (coding (rate + 14)) v)) 0
+asWord rate v = cond (wordy rate) (length (wordOf (coding (rate + codeWords)) v)) 0
 
 unfoldable pub asFixed : ℕ → ℕ
 asFixed rate = cond (wordy rate) rate 0

@@ -29,7 +29,7 @@ fn as_word(table: &[u16; 92], kind: u8, v: u16) -> usize
     if 5 < kind {
         return 0;
     }
-    words::bits_in(table, kind + 14, v)
+    words::bits_in(table, kind + words::CODE_WORDS, v)
 }
 
 // What a fixed code costs there.

@@ -18,8 +18,8 @@ use ground::replies::RESERVED;
 use ground::replies::SHORT_ROOM;
 use kinds::Flags;
 use prefix::Length;
+use prefix::NamedMode;
 use prefix::Prefix;
-use prefix::Rate;
 use runs::Run;
 
 // A frame's record, beside 800 codes and 320 tail bytes.
@@ -175,7 +175,7 @@ fn read_data(src: &[u8], field: Length, found: &mut [u16]) -> Reading
     let e = n + 1;
     let body = &src[1..e];
     let named = field.mode();
-    let Rate::Is(mode) = named else {
+    let NamedMode::Is(mode) = named else {
         return refusal(RESERVED, 0);
     };
     read_body(body, mode.0, found)

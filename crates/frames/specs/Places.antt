@@ -1,7 +1,7 @@
 -- The stored frames of a recording, one behind the other (A.4.1): the prefix byte of each says where the next begins.
 -- Assumes nothing.
 use mathlib.Core.List.{List, [], _∷_, _++_}
-use Prim.Native.Nat.{ℕ, zero, suc, _+_, _-_}
+use Prim.Native.Nat.{ℕ, zero, suc, _+_, min}
 use lib.ListN.{length, take, drop}
 use Rattle.ground.specs.Fills.{table}
 use Rattle.prefix.specs.Sizes.{lengthBytes}
@@ -18,13 +18,9 @@ saidBytes Reserved = 0
 saidBytes NoData = 1
 saidBytes (Data l) = lengthBytes (l .0) + 1
 
--- the smaller
-abbrev pub least : ℕ → ℕ → ℕ
-least a b = a - (a - b)
-
 -- the bytes of the frame at the start, at most those that are there
 unfoldable pub sizeAt : List ℕ → ℕ
-sizeAt s = least (saidBytes (prefixOf s)) (length s)
+sizeAt s = min (saidBytes (prefixOf s)) (length s)
 
 -- the place so many frames behind a place
 unfoldable pub placeFrom : List ℕ → ℕ → ℕ → ℕ

@@ -3,7 +3,7 @@
 use mathlib.Core.Path.{_≡_}
 use mathlib.Core.Bool.{cond, _&&_, Bool}
 use mathlib.Core.List.{List}
-use Prim.Native.Nat.{ℕ, _+_, _-_, _*_, _<_, zero, suc, _%_, _/_, max}
+use Prim.Native.Nat.{ℕ, _+_, _-_, _*_, _<_, zero, suc, _%_, _/_, max, min}
 use lib.Dec.{ltb, leb}
 use lib.ListN.{length}
 use Rattle.ground.specs.Fills.{table}
@@ -31,13 +31,9 @@ pub record Flat (g : Game) (keys : List ℕ) : Type 0 where
   pub keyed : (p : ℕ) → p < 44 → nth keys p ≡ spot p (at (g .bands) p)
   pub sized : (p : ℕ) → p < 44 → lengthOf p ≡ at (g .bands) p .size
 
--- the smaller of two
-abbrev pub least : ℕ → ℕ → ℕ
-least a b = a - (a - b)
-
 -- how many offers of a band that starts at a spot stand above a level, nine at most
 abbrev pub climb : ℕ → ℕ → ℕ
-climb key level = least 9 ((key - level) / 2048)
+climb key level = min 9 ((key - level) / 2048)
 
 abbrev pub part : List ℕ → ℕ → ℕ → ℕ
 part keys level p = climb (nth keys p) level * lengthOf p

@@ -9,7 +9,7 @@ use Rattle.ground.specs.Indices.{inRange}
 use Rattle.ground.specs.Replies.{done, outOfRange, farApart}
 use Rattle.bits.specs.Codings.{Answer, got, no, replyOf}
 use Rattle.bits.specs.Codecs.{writeAll}
-use Rattle.words.specs.Tables.{coding}
+use Rattle.words.specs.Tables.{coding, normWords}
 use Rattle.order.specs.Order.{sent}
 use Rattle.norms.specs.Steps.{stepsClose}
 use Rattle.norms.specs.Part.{numbersOf}
@@ -28,7 +28,7 @@ normReply transient norms =
 
 -- the bits of the 43 words of Table 16, without the first index
 unfoldable pub wordTotal : Bool → List ℕ → ℕ
-wordTotal transient norms = length (writeAll (map coding (replicate 43 20)) (drop 1 (numbersOf transient norms)))
+wordTotal transient norms = length (writeAll (map coding (replicate 43 normWords)) (drop 1 (numbersOf transient norms)))
 
 abbrev pub chosen : ℕ → Bool → Choice
 chosen reply flag = cond (eqb reply 0) (record { reply = done; flag = flag }) (record { reply = reply; flag = false })

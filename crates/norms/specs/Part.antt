@@ -7,13 +7,13 @@ use mathlib.Core.List.{List, _∷_, map}
 use Prim.Native.Nat.{ℕ}
 use lib.ListN.{length, replicate}
 use Rattle.bits.specs.Codecs.{Codec, Check, fine, bad, checked, words, writeAll}
-use Rattle.words.specs.Tables.{coding}
+use Rattle.words.specs.Tables.{coding, normWords}
 use Rattle.order.specs.Order.{sent, banded}
 use Rattle.norms.specs.Steps.{numbers, indices, Near}
 
 -- the kinds of the 44 numbers
 unfoldable pub normKinds : Bool → List ℕ
-normKinds flagN = 5 ∷ replicate 43 (cond flagN 20 5)
+normKinds flagN = 5 ∷ replicate 43 (cond flagN normWords 5)
 
 -- indices 0 to 39, the first at most 31, each difference in sent order −15 to 16
 pub record Writable (transient : Bool) (norms : List ℕ) : Type 0 where

@@ -7,7 +7,7 @@ use lib.Dec.{eqb, ltb}
 use lib.ListN.{length, getD}
 use Rattle.ground.specs.Replies.{done, noByte, marked, reserved, outOfRange, noData}
 use Rattle.prefix.specs.Sizes.{Size, noBody, notGiven, sized, tableA2, lengthBytes}
-use Rattle.prefix.specs.declared.Field.the-variants as field
+use Rattle.prefix.specs.declared.NamedField.the-variants as named-field
 use Rattle.prefix.specs.declared.Prefix.{Prefix}
 use Rattle.prefix.specs.declared.Prefix.the-variants.{Data, NoData, NoByte, Marked, Reserved}
 use Rattle.prefix.specs.declared.Byte.{Byte}

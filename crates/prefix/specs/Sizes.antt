@@ -5,10 +5,10 @@ use mathlib.Core.List.{List, [], _∷_}
 use Prim.Native.Nat.{ℕ, _+_, _-_, _*_}
 use lib.Dec.{eqb, ltb, leb}
 use lib.ListN.{getD}
-use Rattle.prefix.specs.declared.Field.{Field}
-use Rattle.prefix.specs.declared.Field.the-variants as field
-use Rattle.prefix.specs.declared.Rate.{Rate}
-use Rattle.prefix.specs.declared.Rate.the-variants as rate
+use Rattle.prefix.specs.declared.NamedField.{NamedField}
+use Rattle.prefix.specs.declared.NamedField.the-variants as named-field
+use Rattle.prefix.specs.declared.NamedMode.{NamedMode}
+use Rattle.prefix.specs.declared.NamedMode.the-variants as named-mode
 
 -- Table 22: frame size in bytes, by mode
 unfoldable pub table22 : List ℕ
@@ -43,13 +43,13 @@ unfoldable pub lengthBytes : ℕ → ℕ
 lengthBytes l = bytesIn (tableA2 l)
 
 -- mode = L − 8
-unfoldable pub lengthOf : ℕ → Field
-lengthOf m = cond (ltb m 20) (field.Is (record { 0 = m + 8 })) field.None
+unfoldable pub lengthOf : ℕ → NamedField
+lengthOf m = cond (ltb m 20) (named-field.Is (record { 0 = m + 8 })) named-field.None
 
-abbrev pub named : Size → ℕ → Rate
-named noBody l = rate.None
-named notGiven l = rate.None
-named (sized n) l = rate.Is (record { 0 = l - 8 })
+abbrev pub named : Size → ℕ → NamedMode
+named noBody l = named-mode.None
+named notGiven l = named-mode.None
+named (sized n) l = named-mode.Is (record { 0 = l - 8 })
 
-unfoldable pub modeOf : ℕ → Rate
+unfoldable pub modeOf : ℕ → NamedMode
 modeOf l = named (tableA2 l) l

@@ -12,13 +12,13 @@ pub struct Mode(pub u8);
 pub struct Length(pub u8);
 
 // The field L of a mode: none for a number that is no mode.
-pub enum Field {
+pub enum NamedField {
     Is(Length),
     None,
 }
 
 // The mode of a field L: none where L says no data or is reserved.
-pub enum Rate {
+pub enum NamedMode {
     Is(Mode),
     None,
 }
@@ -56,14 +56,14 @@ impl Mode {
     }
 
     // The field L that names the same size.
-    pub fn field(self) -> Field
+    pub fn field(self) -> NamedField
         ensures { λ r. ⌜ r ≡ lengthOf (self .0) ⌝ }
     {
         let number = self.0;
         if 19 < number {
-            return Field::None;
+            return NamedField::None;
         }
-        Field::Is(Length(number + 8))
+        NamedField::Is(Length(number + 8))
     }
 }
 
@@ -73,24 +73,24 @@ impl Length {
         ensures { λ r. ⌜ r ≡ lengthBytes (self .0) ⌝ }
     {
         let named = self.mode();
-        let Rate::Is(mode) = named else {
+        let NamedMode::Is(mode) = named else {
             return 0;
         };
         mode.bytes()
     }
 
     // The mode that names the same size.
-    pub fn mode(self) -> Rate
+    pub fn mode(self) -> NamedMode
         ensures { λ r. ⌜ r ≡ modeOf (self .0) ⌝ }
     {
         let l = self.0;
         if l < 8 {
-            return Rate::None;
+            return NamedMode::None;
         }
         if 27 < l {
-            return Rate::None;
+            return NamedMode::None;
         }
-        Rate::Is(Mode(l - 8))
+        NamedMode::Is(Mode(l - 8))
     }
 }
 
@@ -123,7 +123,7 @@ pub fn write_prefix(mode: Mode) -> Byte
     ensures { λ r. ⌜ r ≡ byteOf (mode .0) ⌝ }
 {
     let named = mode.field();
-    let Field::Is(field) = named else {
+    let NamedField::Is(field) = named else {
         return Byte::OutOfRange;
     };
     let l = field.0;

@@ -80,7 +80,19 @@ refused (suc (suc (suc (suc n)))) = []
 abbrev pub column : ℕ → Coding
 column c = prefix (words c) (refused c)
 
--- what stands at one place of a frame. Kinds below 16 are as many bits (of 0 bits: an unused place); 16 to 19 the words of rates 2 to 5;
--- from 20 on the words of Table 16
+-- the kind of a coefficient word is its rate, 2 to 5, and this
+abbrev pub codeWords : ℕ
+codeWords = 14
+
+-- the first kind that is a word, that of rate 2
+abbrev pub firstWords : ℕ
+firstWords = 16
+
+-- the kind of a norm word
+abbrev pub normWords : ℕ
+normWords = 20
+
+-- what stands at one place of a frame. Kinds below the first words are as many bits (of 0 bits: an unused place); then come the words of rates 2 to 5, and
+-- from normWords on those of Table 16
 unfoldable pub coding : ℕ → Coding
-coding kind = cond (ltb kind 16) (fixed kind) (column (kind - 16))
+coding kind = cond (ltb kind firstWords) (fixed kind) (column (kind - firstWords))

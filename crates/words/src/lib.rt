@@ -21,6 +21,9 @@ pub mod tables;
 // The kind of a coefficient word is its rate, 2 to 5, more than this; lower kinds are as many bits.
 pub const CODE_WORDS: u8 = 14;
 
+// The first kind that is a word, that of rate 2.
+const FIRST_WORDS: usize = 16;
+
 // The kind of a norm word.
 pub const NORM_WORDS: u8 = 20;
 
@@ -37,12 +40,12 @@ fn look(table: &[u8; 640], k: usize) -> usize
     wide8(table[k])
 }
 
-// The column of a kind from 16 on.
+// The column of a kind of words.
 fn column_of(kind: usize) -> usize
     requires { ⌜ 16 ≤ kind ⌝ }
     ensures { λ r. ⌜ (column r ≡ column (kind - 16)) × (r < 5) ⌝ }
 {
-    if kind < 20 { kind - 16 } else { 4 }
+    if kind < 20 { kind - FIRST_WORDS } else { 4 }
 }
 
 // The word of a column at a place, within the bits that are left.
@@ -74,7 +77,7 @@ pub fn word_in(table: &[u8; 640], s: &[u8], at: usize, end: usize, kind: u8) -> 
     }
     let kind = wide8(kind);
     let left = minus(end, at);
-    if 16 <= kind {
+    if FIRST_WORDS <= kind {
         return column_word(table, s, at, left, column_of(kind));
     }
     if left < kind {
@@ -126,7 +129,7 @@ fn spelt(table: &[u16; 92], kind: u8, v: u16) -> Spelling
 {
     let kind = wide8(kind);
     let v = wide16(v);
-    if kind < 16 {
+    if kind < FIRST_WORDS {
         return Spelling {
             bits: kind,
             value: v,
@@ -194,7 +197,7 @@ pub fn has_word(kind: u8, v: u16) -> bool
 {
     let kind = wide8(kind);
     let v = wide16(v);
-    if kind < 16 {
+    if kind < FIRST_WORDS {
         return v < 1 << kind;
     }
     v < size_of(column_of(kind))

@@ -32,8 +32,8 @@ use Rattle.prefix.specs.declared.Prefix.{Prefix}
 use Rattle.prefix.specs.declared.Prefix.the-variants.{Data, NoData, NoByte, Marked, Reserved}
 use Rattle.prefix.specs.declared.Length.{Length}
 use Rattle.prefix.specs.declared.Mode.{Mode}
-use Rattle.prefix.specs.declared.Rate.{Rate}
-use Rattle.prefix.specs.declared.Rate.the-variants as rate
+use Rattle.prefix.specs.declared.NamedMode.{NamedMode}
+use Rattle.prefix.specs.declared.NamedMode.the-variants as named-mode
 use Rattle.kinds.proofs.Laws.Kinds.{length-kinds}
 use Rattle.frame.specs.Layout.{Frame, isTransient, flagL, flagN, flagC, kindsOf, frame}
 use Rattle.kinds.specs.Budget.{spare, kindsAt, wideIn}
@@ -203,7 +203,7 @@ module _ (src : List ℕ) (f : Length) {n : ℕ} (en : n ≡ lengthBytes (f .0))
   pub data-stops : {r : Reading} {cs : List ℕ} → length src ≤ n → r ≡ stoppedAt cut 0 → FrameTold src (started (Data f) src) r cs
   data-stops h er = frame-stops (ap readingOf (data-cut src f n en h)) (λ z. omega arith) er
 
-  module _ {named : Rate} {m : Mode} (ep : Data f ≡ prefixOf src) (h : n < length src) (e : named ≡ modeOf (f .0)) (em : named ≡ rate.Is m) where
+  module _ {named : NamedMode} {m : Mode} (ep : Data f ≡ prefixOf src) (h : n < length src) (e : named ≡ modeOf (f .0)) (em : named ≡ named-mode.Is m) where
     mode-is : m .0 ≡ f .0 - 8
     mode-is = field-mode src f ep m (sym e ∙ em)
 

@@ -29,7 +29,7 @@ use Rattle.prefix.specs.declared.Prefix.{Prefix}
 use Rattle.prefix.specs.declared.Prefix.the-variants.{Data}
 use Rattle.prefix.specs.declared.Length.{Length}
 use Rattle.prefix.specs.declared.Mode.{Mode}
-use Rattle.prefix.specs.declared.Rate.the-variants as rate
+use Rattle.prefix.specs.declared.NamedMode.the-variants as named-mode
 use Rattle.frame.specs.Layout.{isTransient, flagN, frame}
 use Rattle.kinds.proofs.Laws.Budget.{spare-le}
 use Rattle.frame.proofs.Laws.Places.{frame-no}
@@ -146,8 +146,8 @@ pub length-body : (src : List ℕ) (n : ℕ) → n < length src → length (body
 length-body src n h = length-take-le n (drop 1 src) (omega (arith, length-drop 1 src))
 
 -- the mode that the field names is L − 8
-pub field-mode : (src : List ℕ) (f : Length) → Data f ≡ prefixOf src → (m : Mode) → modeOf (f .0) ≡ rate.Is m → m .0 ≡ f .0 - 8
+pub field-mode : (src : List ℕ) (f : Length) → Data f ≡ prefixOf src → (m : Mode) → modeOf (f .0) ≡ named-mode.Is m → m .0 ≡ f .0 - 8
 field-mode src f e = let d = prefix-data src f (sym e) in mode-less-8 (f .0) (d .0) (d .1)
 
-pub field-named : (src : List ℕ) (f : Length) → Data f ≡ prefixOf src → modeOf (f .0) ≡ rate.None → ⊥
+pub field-named : (src : List ℕ) (f : Length) → Data f ≡ prefixOf src → modeOf (f .0) ≡ named-mode.None → ⊥
 field-named src f e = let d = prefix-data src f (sym e) in mode-given (f .0) (d .0) (d .1)

@@ -98,7 +98,7 @@ module _ (rate : ℕ → ℕ) where
   pub widths : sumTo (λ i. kindOf false (rate (bandOf i)) i) 800 ≡ sumTo (λ p. rate p * lengthOf p) 44
   widths =
       sum-blocks width cost 32 544 36 8
-      (λ p h. one-band (36 + p) (544 + p * 32) 4 (omega arith) (length-32 p) (λ j k. sym (band-32 (544 + p * 32 + j) (omega arith)) ∙ omega arith))
+      (λ p h. one-band (36 + p) (544 + p * 32) 4 (omega arith) (length-32 p) (λ j k. sym (band-32 (544 + p * 32 + j) (omega arith) (omega arith)) ∙ omega arith))
       upto-544
 
 -- ---- the kinds of the 800 places
@@ -114,7 +114,7 @@ band-lt i h =
     by-bool (ltb i 256) (λ u. omega (arith, ltb-true i 256 u, band-16 i (ltb-false i 128 t) (ltb-true i 256 u)))
     (λ u.
     by-bool (ltb i 544) (λ v. omega (arith, ltb-true i 544 v, band-24 i (ltb-false i 256 u) (ltb-true i 544 v)))
-    (λ v. omega (arith, band-32 i (ltb-false i 544 v)))))
+    (λ v. omega (arith, band-32 i (ltb-false i 544 v) h))))
 
 kind-small : (r i : ℕ) → r ≤ 9 → kindOf false r i ≤ 15
 kind-small r i h =

@@ -1,17 +1,20 @@
 -- Laws of specs/Kinds.
 -- Assumes nothing.
 use mathlib.Core.Path.{_≡_, refl, sym, ap, _∙_}
-use mathlib.Core.Bool.{Bool, true, false}
+use mathlib.Core.Bool.{Bool, true, false, cond}
 use mathlib.Core.List.{List}
 use Prim.Native.Nat.{ℕ, _+_, _-_, _/_, _%_, _≤_, _<_}
 use native.Mathlib.Omega.{arith}
-use lib.Dec.{ltb}
+use lib.Dec.{ltb, eqb, eqb→eq}
 use lib.ListN.{length, getD, set, length-set, replicate}
 use borrow.Author.Tests.{lt-ltb, le-ltb, ltb-true, ltb-false, le-leb, lt-leb, eq-eqb, ne-eqb}
 use Rattle.ground.specs.Cases.{by-bool}
 use Rattle.ground.specs.Fills.{length-from, filled}
+use Rattle.ground.specs.Runs.{runs}
+use Rattle.ground.specs.Tables.{every-at}
+use Rattle.contest.specs.Bands.{lengthOf}
 use Rattle.ground.proofs.Laws.Fills.{fill-eight}
-use Rattle.kinds.specs.Kinds.{bandOf, kindOf, kinds}
+use Rattle.kinds.specs.Kinds.{placeBands, bandOf, kindOf, kinds}
 
 pub length-kinds : (flagC : Bool) (rates : List ℕ) → length (kinds flagC rates) ≡ 800
 unfolding kinds
@@ -19,21 +22,36 @@ length-kinds flagC rates = length-from (λ i. kindOf flagC (getD rates (bandOf i
 
 -- ---- the band of a place, by its four parts
 
+bandBy : ℕ → ℕ
+bandBy i =
+    cond (ltb i 128) (i / 8)
+    (cond (ltb i 256) (16 + (i - 128) / 16)
+    (cond (ltb i 544) (24 + (i - 256) / 24)
+    (36 + (i - 544) / 32)))
+
+by-parts : ℕ → ℕ → Bool
+by-parts i band = eqb band (bandBy i)
+
+-- one test over the 800 places
+band-by : (i : ℕ) → i < 800 → bandBy i ≡ bandOf i
+unfolding bandOf placeBands runs lengthOf by-parts bandBy
+band-by i h = sym (eqb→eq (bandOf i) (bandBy i) (every-at by-parts placeBands 0 tt i h))
+
 pub band-8 : (i : ℕ) → i < 128 → i / 8 ≡ bandOf i
-unfolding bandOf
-band-8 i h = rw (lt-ltb i 128 h)
+unfolding bandBy
+band-8 i h = rw (lt-ltb i 128 h) at (band-by i (omega arith))
 
 pub band-16 : (i : ℕ) → 128 ≤ i → i < 256 → 16 + (i - 128) / 16 ≡ bandOf i
-unfolding bandOf
-band-16 i p h = rw (le-ltb i 128 p, lt-ltb i 256 h)
+unfolding bandBy
+band-16 i p h = rw (le-ltb i 128 p, lt-ltb i 256 h) at (band-by i (omega arith))
 
 pub band-24 : (i : ℕ) → 256 ≤ i → i < 544 → 24 + (i - 256) / 24 ≡ bandOf i
-unfolding bandOf
-band-24 i p h = rw (le-ltb i 128 (omega arith), le-ltb i 256 p, lt-ltb i 544 h)
+unfolding bandBy
+band-24 i p h = rw (le-ltb i 128 (omega arith), le-ltb i 256 p, lt-ltb i 544 h) at (band-by i (omega arith))
 
-pub band-32 : (i : ℕ) → 544 ≤ i → 36 + (i - 544) / 32 ≡ bandOf i
-unfolding bandOf
-band-32 i p = rw (le-ltb i 128 (omega arith), le-ltb i 256 (omega arith), le-ltb i 544 p)
+pub band-32 : (i : ℕ) → 544 ≤ i → i < 800 → 36 + (i - 544) / 32 ≡ bandOf i
+unfolding bandBy
+band-32 i p h = rw (le-ltb i 128 (omega arith), le-ltb i 256 (omega arith), le-ltb i 544 p) at (band-by i h)
 
 -- ---- the kind of a place, by the tests
 
@@ -65,8 +83,8 @@ module _ (c : Bool) (rate i : ℕ) where
 
 -- ---- eight places at a time: a group of eight lies in one band, and its places but the first are of one kind
 
-pub band-group : (i k : ℕ) → i % 8 ≡ 0 → i ≤ k → k < i + 8 → bandOf k ≡ bandOf i
-band-group i k m l h =
+pub band-group : (i k : ℕ) → i < 800 → i % 8 ≡ 0 → i ≤ k → k < i + 8 → bandOf k ≡ bandOf i
+band-group i k n m l h =
     by-bool (ltb i 128)
     (λ a. let p = ltb-true i 128 a in sym (band-8 k (omega arith)) ∙ (let q : k / 8 ≡ i / 8 = omega arith in q) ∙ band-8 i p)
     (λ a.
@@ -77,7 +95,7 @@ band-group i k m l h =
     let q = ltb-false i 256 b in
     by-bool (ltb i 544)
     (λ c. let r = ltb-true i 544 c in sym (band-24 k (omega arith) (omega arith)) ∙ twenty-four i k m l h q ∙ band-24 i q r)
-    (λ c. let r = ltb-false i 544 c in sym (band-32 k (omega arith)) ∙ thirty-two i k m l h r ∙ band-32 i r)))
+    (λ c. let r = ltb-false i 544 c in sym (band-32 k (omega arith) (omega arith)) ∙ thirty-two i k m l h r ∙ band-32 i r n)))
   where
     sixteen : (i k : ℕ) → i % 8 ≡ 0 → i ≤ k → k < i + 8 → 128 ≤ i → 16 + (k - 128) / 16 ≡ 16 + (i - 128) / 16
     sixteen i k m l h p = omega arith
@@ -111,7 +129,7 @@ module _ {c : Bool} {rates : List ℕ} where
     fill-turn {b} {v} {w} h eb ev ew =
         let m = I .eights in
         let same : (k : ℕ) → i ≤ k → k < i + 8 → getD rates b 0 ≡ getD rates (bandOf k) 0 =
-        λ k p q. ap (λ (x : ℕ). getD rates x 0) (eb ∙ sym (band-group i k m p q)) in
+        λ k p q. ap (λ (x : ℕ). getD rates x 0) (eb ∙ sym (band-group i k h m p q)) in
         record {
           upto = omega (arith, m);
           eights = omega (arith, m);

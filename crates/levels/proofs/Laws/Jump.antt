@@ -4,7 +4,7 @@ use mathlib.Core.Bool.{Bool, _&&_, false, true}
 use mathlib.Core.List.{List}
 use mathlib.Core.Logic.{inl}
 use mathlib.Core.Path.{_∙_, _≡_, ap, refl, sym}
-use Prim.Native.Nat.{_*_, _+_, _-_, _/_, _<_, _≤_, suc, zero, ℕ}
+use Prim.Native.Nat.{_*_, _+_, _-_, _/_, _<_, _≤_, suc, zero, ℕ, min}
 use native.Mathlib.Nat.{add-mul, one-mul, zero-mul}
 use native.Mathlib.Omega.{arith}
 use borrow.Author.Tests.{eqb-false, eqb-true, le-leb, le-ltb, lt-ltb, ltb-false, ltb-true}
@@ -16,13 +16,13 @@ use Rattle.ground.specs.Sums.{sumTo}
 use Rattle.contest.specs.Raised.{Band, Game, Ready, Readys, ahead, at, contest, first, fits, granted, nobody, round}
 use Rattle.contest.proofs.Laws.Ends.{pot, pot-round, pot-start}
 use Rattle.contest.proofs.Laws.Rounds.{Able, able-round, ahead-at, at-other, at-served, contest-on, first-le, ready-ahead, served-left}
-use Rattle.levels.specs.Inner.{least, spot, stepped}
+use Rattle.levels.specs.Inner.{spot, stepped}
 use Rattle.levels.proofs.Laws.Order.{spot-out, top-spot}
 use Rattle.levels.proofs.Laws.Thin.{band-ext, game-ext, thin}
 
 -- how many offers of a band stand above a level
 unfoldable pub count : ℕ → ℕ → Band → ℕ
-count level p b = least (9 - b .rate) ((spot p b - level) / 2048)
+count level p b = min (9 - b .rate) ((spot p b - level) / 2048)
 
 unfoldable pub cost : ℕ → List Band → ℕ → ℕ
 cost level bands p = count level p (at bands p) * at bands p .size
@@ -75,23 +75,23 @@ unfolding granted
 granted-rate b = refl
 
 -- the arithmetic of counts
-least-pos : (a d : ℕ) → 0 < least a d → 0 < d
-least-pos a d h = omega arith
+min-pos : (a d : ℕ) → 0 < min a d → 0 < d
+min-pos a d h = omega arith
 
-least-step : (r e : ℕ) → r + 1 < 9 → least (9 - (r + 1)) e + 1 ≡ least (9 - r) (e + 1)
-least-step r e h = omega arith
+min-step : (r e : ℕ) → r + 1 < 9 → min (9 - (r + 1)) e + 1 ≡ min (9 - r) (e + 1)
+min-step r e h = omega arith
 
-least-ninth : (r e d : ℕ) → r < 9 → 9 ≤ r + 1 → 0 < least (9 - r) d → least (9 - (r + 1)) e + 1 ≡ least (9 - r) d
-least-ninth r e d a b h = let k : r ≡ 8 = omega arith in rw k (nine e d (rw k at h))
+min-ninth : (r e d : ℕ) → r < 9 → 9 ≤ r + 1 → 0 < min (9 - r) d → min (9 - (r + 1)) e + 1 ≡ min (9 - r) d
+min-ninth r e d a b h = let k : r ≡ 8 = omega arith in rw k (nine e d (rw k at h))
   where
-    nine : (e d : ℕ) → 0 < least (9 - 8) d → least (9 - (8 + 1)) e + 1 ≡ least (9 - 8) d
+    nine : (e d : ℕ) → 0 < min (9 - 8) d → min (9 - (8 + 1)) e + 1 ≡ min (9 - 8) d
     nine e d h = omega arith
 
-least-zero : (r d : ℕ) → r < 9 → least (9 - r) d ≡ 0 → d ≡ 0
-least-zero r d h e = omega arith
+min-zero : (r d : ℕ) → r < 9 → min (9 - r) d ≡ 0 → d ≡ 0
+min-zero r d h e = omega arith
 
-least-none : (a d : ℕ) → d ≡ 0 → least a d ≡ 0
-least-none a d e = omega arith
+min-none : (a d : ℕ) → d ≡ 0 → min a d ≡ 0
+min-none a d e = omega arith
 
 div-step : (x y k : ℕ) → y + 2048 ≡ x → 0 < (x - k) / 2048 → (y - k) / 2048 + 1 ≡ (x - k) / 2048
 div-step x y k e h = omega arith
@@ -105,10 +105,10 @@ count-granted level p b r t h =
     by-bool (ltb (b .rate + 1) 9)
     (λ u.
     let k : b .rate + 1 < 9 = ltb-true _ _ u in
-    least-step (b .rate) ((spot p (granted b) - level) / 2048) k
-    ∙ ap (least (9 - b .rate)) (div-step (spot p b) (spot p (granted b)) level (spot-granted p b r t k)
-    (least-pos (9 - b .rate) ((spot p b - level) / 2048) h)))
-    (λ u. least-ninth (b .rate) ((spot p (granted b) - level) / 2048) ((spot p b - level) / 2048) (r .below) (ltb-false _ _ u) h)
+    min-step (b .rate) ((spot p (granted b) - level) / 2048) k
+    ∙ ap (min (9 - b .rate)) (div-step (spot p b) (spot p (granted b)) level (spot-granted p b r t k)
+    (min-pos (9 - b .rate) ((spot p b - level) / 2048) h)))
+    (λ u. min-ninth (b .rate) ((spot p (granted b) - level) / 2048) ((spot p b - level) / 2048) (r .below) (ltb-false _ _ u) h)
 
 -- ---- one round
 count-in : (level p : ℕ) (b : Band) → 0 < count level p b → b .competes ≡ true
@@ -119,10 +119,10 @@ count-in level p b h = by-bool (b .competes) (λ t. t) (λ t. absurd (omega (ari
 none-left : (level : ℕ) (g : Game) → Able g → count level (first g) (ahead g) ≡ 0 → (p : ℕ) → p ≤ 43 → count level p (at (g .bands) p) ≡ 0
 unfolding count
 none-left level g a z p b =
-    least-none (9 - at (g .bands) p .rate) ((spot p (at (g .bands) p) - level) / 2048)
+    min-none (9 - at (g .bands) p .rate) ((spot p (at (g .bands) p) - level) / 2048)
     (div-none (spot (first g) (ahead g)) (spot p (at (g .bands) p)) level (top-spot g p b)
     (by-bool (ahead g .competes)
-    (λ t. least-zero (ahead g .rate) ((spot (first g) (ahead g) - level) / 2048) (ready-ahead g a t .below) z)
+    (λ t. min-zero (ahead g .rate) ((spot (first g) (ahead g) - level) / 2048) (ready-ahead g a t .below) z)
     (λ t. rw (spot-out (first g) (ahead g) t) (omega arith))))
 
 module _ (level : ℕ) (g : Game) (a : Able g) (pos : 0 < count level (first g) (ahead g)) (pays : costs level (g .bands) ≤ g .left) where

@@ -3,7 +3,7 @@
 use mathlib.Core.Bool.{_&&_, cond, true}
 use mathlib.Core.List.{List}
 use mathlib.Core.Path.{_∙_, _≡_, ap, refl, sym}
-use Prim.Native.Nat.{_*_, _+_, _-_, _/_, _<_, _≤_, ℕ}
+use Prim.Native.Nat.{_*_, _+_, _-_, _/_, _<_, _≤_, ℕ, min}
 use native.Mathlib.Nat.{zero-add}
 use native.Mathlib.Omega.{arith}
 use borrow.Author.Tests.{eqb-false, eqb-true, le-ltb, lt-ltb, ltb-false, ltb-true}
@@ -21,7 +21,7 @@ use Rattle.contest.proofs.Laws.Ends.{pot-start}
 use Rattle.contest.proofs.Laws.Rounds.{Able}
 use Rattle.contest.proofs.Laws.Promise.{sound-table}
 use Rattle.levels.proofs.Laws.Levels.{Best}
-use Rattle.levels.specs.Inner.{bid, bidAt, bill, climb, least, part, Flat, spot, state, stepped}
+use Rattle.levels.specs.Inner.{bid, bidAt, bill, climb, part, Flat, spot, state, stepped}
 use Rattle.levels.proofs.Laws.Finish.{ended, granted-on, offer, offer-in, serve, thinned}
 use Rattle.levels.proofs.Laws.Jump.{cost, costs, count, jump, jumped}
 use Rattle.levels.proofs.Laws.Thin.{band-ext, game-ext}
@@ -72,7 +72,7 @@ spot-nine p n b z h = rw (z, zero-add n, le-ltb _ _ h) (by-bool (b .competes) (�
 
 count-climb : (level p key : ℕ) (b : Band) → b .rate ≡ 0 → key ≡ spot p b → count level p b ≡ climb key level
 unfolding count
-count-climb level p key b z e = ap (λ r. least (9 - r) ((spot p b - level) / 2048)) z ∙ ap (λ k. climb k level) (sym e)
+count-climb level p key b z e = ap (λ r. min (9 - r) ((spot p b - level) / 2048)) z ∙ ap (λ k. climb k level) (sym e)
 
 -- ---- the game
 module _ (g : Game) (keys : List ℕ) (l : Flat g keys) where

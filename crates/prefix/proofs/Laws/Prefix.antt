@@ -11,8 +11,8 @@ use borrow.Author.Tests.{eq-eqb, ne-eqb, lt-ltb, le-ltb, ltb-true, ltb-false, eq
 use Rattle.ground.specs.Cases.{by-bool}
 use Rattle.prefix.specs.Sizes.{Size, noBody, notGiven, sized, tableA2, lengthOf}
 use Rattle.prefix.proofs.Laws.Sizes.{a2-none, a2-low, a2-high, a2-sized, same-size, length-mode, no-length}
-use Rattle.prefix.specs.declared.Field.{Field}
-use Rattle.prefix.specs.declared.Field.the-variants as field
+use Rattle.prefix.specs.declared.NamedField.{NamedField}
+use Rattle.prefix.specs.declared.NamedField.the-variants as named-field
 use Rattle.prefix.specs.declared.Length.{Length}
 use Rattle.prefix.specs.declared.Prefix.{Prefix}
 use Rattle.prefix.specs.declared.Prefix.the-variants.{Data, NoData, NoByte, Marked, Reserved}
@@ -88,9 +88,9 @@ unfolding byteOf
 byte-none m h = rw (le-ltb m 20 h)
 
 -- the byte of the field L that names the mode's size
-abbrev pub byteNamed : Field → Byte
-byteNamed field.None = OutOfRange
-byteNamed (field.Is f) = Is (f .0 * 4)
+abbrev pub byteNamed : NamedField → Byte
+byteNamed named-field.None = OutOfRange
+byteNamed (named-field.Is f) = Is (f .0 * 4)
 
 pub byte-named : (m : ℕ) → byteOf m ≡ byteNamed (lengthOf m)
 byte-named m =

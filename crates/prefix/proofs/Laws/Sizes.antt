@@ -11,10 +11,10 @@ use Rattle.ground.specs.Cases.{by-bool, and-T}
 use Rattle.ground.specs.Tables.{every, every-at}
 use Rattle.prefix.specs.declared.Mode.{Mode}
 use Rattle.prefix.specs.declared.Length.{Length}
-use Rattle.prefix.specs.declared.Field.{Field}
-use Rattle.prefix.specs.declared.Field.the-variants as field
-use Rattle.prefix.specs.declared.Rate.{Rate}
-use Rattle.prefix.specs.declared.Rate.the-variants as rate
+use Rattle.prefix.specs.declared.NamedField.{NamedField}
+use Rattle.prefix.specs.declared.NamedField.the-variants as named-field
+use Rattle.prefix.specs.declared.NamedMode.{NamedMode}
+use Rattle.prefix.specs.declared.NamedMode.the-variants as named-mode
 use Rattle.prefix.specs.Sizes.{table22, Size, noBody, notGiven, sized, tableA2, bytesIn, modeBytes, lengthBytes, lengthOf, named, modeOf}
 
 -- ---- Table A.2 by its rows
@@ -40,7 +40,7 @@ unfolding tableA2
 a2-twenty l p h = rw (ne-eqb l 0 (λ e. omega arith), le-ltb l 8 (omega arith), lt-leb l 22 p, le-leb l 27 h)
 
 -- no body is named below 8
-pub a2-below : (l : ℕ) → l < 8 → (lengthBytes l ≡ 0) × (modeOf l ≡ rate.None)
+pub a2-below : (l : ℕ) → l < 8 → (lengthBytes l ≡ 0) × (modeOf l ≡ named-mode.None)
 unfolding lengthBytes modeOf
 a2-below zero h = (ap bytesIn a2-none, ap (λ (z : Size). named z 0) a2-none)
 a2-below (suc l) h =
@@ -48,7 +48,7 @@ a2-below (suc l) h =
     (ap bytesIn e, ap (λ (z : Size). named z (suc l)) e)
 
 -- nor from 28 on
-pub a2-above : (l : ℕ) → 27 < l → (lengthBytes l ≡ 0) × (modeOf l ≡ rate.None)
+pub a2-above : (l : ℕ) → 27 < l → (lengthBytes l ≡ 0) × (modeOf l ≡ named-mode.None)
 unfolding lengthBytes modeOf
 a2-above l h = let e = a2-high l h in (ap bytesIn e, ap (λ (z : Size). named z l) e)
 
@@ -111,30 +111,30 @@ pub length-bytes : (m : ℕ) → m < 20 → lengthBytes (m + 8) ≡ modeBytes m
 unfolding lengthBytes
 length-bytes m h = ap bytesIn (same-size m h)
 
-pub mode-length : (m : ℕ) → m < 20 → modeOf (m + 8) ≡ rate.Is (record { 0 = m })
+pub mode-length : (m : ℕ) → m < 20 → modeOf (m + 8) ≡ named-mode.Is (record { 0 = m })
 unfolding modeOf
 mode-length m h =
     let e : m + 8 - 8 ≡ m = omega arith in
-    ap (λ (z : Size). named z (m + 8)) (same-size m h) ∙ ap (λ (k : ℕ). rate.Is (record { 0 = k })) e
+    ap (λ (z : Size). named z (m + 8)) (same-size m h) ∙ ap (λ (k : ℕ). named-mode.Is (record { 0 = k })) e
 
-pub length-mode : (m : ℕ) → m < 20 → lengthOf m ≡ field.Is (record { 0 = m + 8 })
+pub length-mode : (m : ℕ) → m < 20 → lengthOf m ≡ named-field.Is (record { 0 = m + 8 })
 unfolding lengthOf
 length-mode m h = rw (lt-ltb m 20 h)
 
-pub no-length : (m : ℕ) → 19 < m → lengthOf m ≡ field.None
+pub no-length : (m : ℕ) → 19 < m → lengthOf m ≡ named-field.None
 unfolding lengthOf
 no-length m h = rw (le-ltb m 20 h)
 
 -- a field L of 8 to 27 and its mode
-pub a2-between : (l : ℕ) → 8 ≤ l → l ≤ 27 → (lengthBytes l ≡ modeBytes (l - 8)) × (modeOf l ≡ rate.Is (record { 0 = l - 8 }))
+pub a2-between : (l : ℕ) → 8 ≤ l → l ≤ 27 → (lengthBytes l ≡ modeBytes (l - 8)) × (modeOf l ≡ named-mode.Is (record { 0 = l - 8 }))
 a2-between l p h =
     let e : l - 8 + 8 ≡ l = omega arith in
     (ap lengthBytes (sym e) ∙ length-bytes (l - 8) (omega arith), ap modeOf (sym e) ∙ mode-length (l - 8) (omega arith))
 
 -- a field's bytes are those of the mode that it names
-abbrev pub bytesNamed : Rate → ℕ
-bytesNamed rate.None = 0
-bytesNamed (rate.Is m) = modeBytes (m .0)
+abbrev pub bytesNamed : NamedMode → ℕ
+bytesNamed named-mode.None = 0
+bytesNamed (named-mode.Is m) = modeBytes (m .0)
 
 pub bytes-named : (l : ℕ) → lengthBytes l ≡ bytesNamed (modeOf l)
 bytes-named l =
@@ -144,27 +144,27 @@ bytes-named l =
     (λ u. let a = a2-above l (leb-false l 27 u) in a .0 ∙ sym (ap bytesNamed (a .1))))
 
 -- the mode that a field of 8 to 27 names is L − 8
-number : Rate → ℕ
-number rate.None = 0
-number (rate.Is m) = m .0
+number : NamedMode → ℕ
+number named-mode.None = 0
+number (named-mode.Is m) = m .0
 
-pub mode-less-8 : (l : ℕ) → 8 ≤ l → l ≤ 27 → (m : Mode) → modeOf l ≡ rate.Is m → m .0 ≡ l - 8
+pub mode-less-8 : (l : ℕ) → 8 ≤ l → l ≤ 27 → (m : Mode) → modeOf l ≡ named-mode.Is m → m .0 ≡ l - 8
 unfolding number
 mode-less-8 l p h m e = ap number (sym e ∙ a2-between l p h .1)
 
-pub mode-given : (l : ℕ) → 8 ≤ l → l ≤ 27 → modeOf l ≡ rate.None → ⊥
+pub mode-given : (l : ℕ) → 8 ≤ l → l ≤ 27 → modeOf l ≡ named-mode.None → ⊥
 mode-given l p h e = let w = sym e ∙ a2-between l p h .1 in let z : _≡_ {A = ℕ} 0 1 = cc in omega arith
 
 -- the field L that names a mode's size is at most 27
-pub field-most : (m : ℕ) (f : Length) → lengthOf m ≡ field.Is f → f .0 ≤ 27
+pub field-most : (m : ℕ) (f : Length) → lengthOf m ≡ named-field.Is f → f .0 ≤ 27
 field-most m f e =
     by-bool (ltb m 20)
     (λ t. let q : m + 8 ≡ f .0 = ap numbered (sym (length-mode m (ltb-true m 20 t)) ∙ e) in omega (arith, ltb-true m 20 t))
     (λ t. absurd (let w = sym (no-length m (ltb-false m 20 t)) ∙ e in let z : _≡_ {A = ℕ} 0 1 = cc in omega arith))
   where
-    numbered : Field → ℕ
-    numbered field.None = 0
-    numbered (field.Is f) = f .0
+    numbered : NamedField → ℕ
+    numbered named-field.None = 0
+    numbered (named-field.Is f) = f .0
 
 -- ---- what the code computes
 
