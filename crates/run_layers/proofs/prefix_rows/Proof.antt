@@ -1,0 +1,25 @@
+-- `run_layers::prefix_rows` is safe and ends: its loop runs to the end of its range. Assumes nothing.
+use Prim.Native.Nat.{_-_}
+use borrow.Author.Needs.{needs}
+use Rattle.run_layers.proofs.prefix_rows.Statement.{statement}
+use Rattle.run_layers.proofs.prefix_rows.Tie as tie
+
+abbrev Inv-loop : tie.InvT-loop
+Inv-loop b₀ b = Unit {0}
+
+abbrev μ-loop : tie.MeasureT-loop
+μ-loop b₀ b = 255 - b
+
+pub prefix-rows-spec : {M : Type 1} → statement M
+prefix-rows-spec =
+    tie.close
+    (tie.spec
+    Inv-loop
+    μ-loop
+    (λ c. search needs)
+    (λ c κs. search needs)
+    (λ c. search needs)
+    (λ c. search needs)
+    (λ c. search needs)
+    (λ c κs. search needs)
+    (λ c. search needs))
