@@ -1,9 +1,11 @@
 // Numbers as text: so many digits, or as many as a number has, put into a lent slice.
 ghost use mathlib.Core.Path.{_≡_};
+ghost use mathlib.Core.List.{_++_};
 ghost use Prim.Native.Nat.{_+_, _≤_, _<_};
 ghost use lib.ListN.{length};
 ghost use Rattle.decimals.specs.Decimals.{digits, decimal};
 ghost use Rattle.ground.specs.Laying.{Laid};
+use ground::bytes::put;
 
 // Puts the last k digits of a number.
 pub fn put_digits(out: &mut [u8], at: usize, n: usize, k: usize) -> usize
@@ -40,10 +42,11 @@ fn places(n: usize) -> usize
     5
 }
 
-// Puts a number without zeros in front.
-pub fn put_decimal(out: &mut [u8], at: usize, n: usize) -> usize
-    requires { ⌜ (n < 100000) × (at + length (decimal n) ≤ length (now out)) ⌝ }
-    ensures { λ r. ⌜ Laid (now (out .entry)) at (decimal n) (now (out .exit)) r ⌝ }
+// Puts a label and behind it a number, without zeros in front.
+pub fn put_number(out: &mut [u8], at: usize, label: &[u8], n: usize) -> usize
+    requires { ⌜ (n < 100000) × (at + length (now label ++ decimal n) ≤ length (now out)) ⌝ }
+    ensures { λ r. ⌜ Laid (now (out .entry)) at (now (label .entry) ++ decimal n) (now (out .exit)) r ⌝ }
 {
-    put_digits(out, at, n, places(n))
+    let behind = put(out, at, label);
+    put_digits(out, behind, n, places(n))
 }

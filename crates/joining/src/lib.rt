@@ -6,6 +6,7 @@ ghost use Prim.Native.Nat.{ℕ, _+_, _≤_, _<_};
 ghost use lib.Dec.{eqb};
 ghost use lib.ListN.{length, drop};
 ghost use Rattle.ground.specs.Laying.{Laid};
+ghost use Rattle.recording.specs.Walk.{mostFrames};
 ghost use Rattle.joining.specs.Joining.{startOf, recordingAt, ownCheck, blockOf, joined, checkAll, joinAnswer, joinAfter, Lying};
 ghost use Rattle.joining.specs.Inner.{placesAt, Standing};
 use channels::Copied;
@@ -104,7 +105,7 @@ fn check_all(src: &[u8], lengths: &[u32]) -> Copied
 
 // Lays the next block: the next frame of each recording, in order.
 fn join_block(src: &[u8], lengths: &[u32], turn: Turn, out: &mut [u8]) -> Turn
-    requires { ⌜ Standing (now src) (now lengths) (now out) turn × (turn .block < 3000) ⌝ }
+    requires { ⌜ Standing (now src) (now lengths) (now out) turn × (turn .block < mostFrames) ⌝ }
     ensures { λ t. ⌜ (t .block ≡ turn .block + 1) × (t .places ≡ placesAt (now (src .entry)) (now (lengths .entry)) (turn .block + 1))
         × Laid (now (out .entry)) (turn .next) (blockOf (length (now (lengths .entry))) (recordingAt (now (src .entry)) (now (lengths .entry))) (turn .block)) (now (out .exit)) (t .next) ⌝ }
 {
@@ -129,7 +130,7 @@ fn join_block(src: &[u8], lengths: &[u32], turn: Turn, out: &mut [u8]) -> Turn
 
 // Lays so many blocks at the front of the output.
 fn join_blocks(src: &[u8], lengths: &[u32], blocks: u32, out: &mut [u8])
-    requires { ⌜ Lying (now src) (now lengths) × (blocks ≤ 3000) × (length (joined (length (now lengths)) blocks (recordingAt (now src) (now lengths))) ≤ length (now out)) ⌝ }
+    requires { ⌜ Lying (now src) (now lengths) × (blocks ≤ mostFrames) × (length (joined (length (now lengths)) blocks (recordingAt (now src) (now lengths))) ≤ length (now out)) ⌝ }
     ensures { λ _. ⌜ now (out .exit) ≡ joined (length (now (lengths .entry))) blocks (recordingAt (now (src .entry)) (now (lengths .entry)))
         ++ drop (length (joined (length (now (lengths .entry))) blocks (recordingAt (now (src .entry)) (now (lengths .entry))))) (now (out .entry)) ⌝ }
 {

@@ -7,14 +7,14 @@ use native.Mathlib.Omega.{arith}
 use Rattle.prefix.specs.Sizes.{tableA2, lengthBytes}
 use Rattle.prefix.specs.Prefix.{prefixOf, prefixByte}
 use Rattle.frame.specs.Answers.{readAnswer}
-use Rattle.recording.specs.Walk.{storedAt, onward, walkOver, booked, checkOver, checkOf}
+use Rattle.recording.specs.Walk.{storedAt, onward, nextStep, walkOver, booked, checkOver, checkOf}
 use Rattle.recording.specs.Units.{none}
 use Rattle.recording.proofs.Laws.Frames.{frame-lawful}
 use Rattle.recording.proofs.Laws.Checked.{all-booked, all-unbooked}
 
 -- ★ 00 20: one sound frame, reply 4 at place 1, whatever the booking
 pub star-00-20 : (b : ℕ) → checkOf (0x00 ∷ 0x20 ∷ []) b ≡ record { reply = 4; count = 1; place = 1 }
-unfolding checkOver booked walkOver onward storedAt readAnswer prefixOf prefixByte tableA2 lengthBytes
+unfolding checkOver booked walkOver nextStep onward storedAt readAnswer prefixOf prefixByte tableA2 lengthBytes
 star-00-20 b = refl
 
 -- an empty file has 0 frames

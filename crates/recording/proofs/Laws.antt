@@ -4,6 +4,7 @@ pub mod Blocks
 pub mod Checked
 pub mod CutReport
 pub mod Frames
-pub mod Turns
+pub mod Reads
 pub mod Units
 pub mod Walk
+pub mod Walked

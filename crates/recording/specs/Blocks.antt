@@ -36,10 +36,13 @@ unfoldable pub blockStep : ℕ → List ℕ → Step
 blockStep zero s = passes 0
 blockStep (suc n) s = followed (frameStep s) (λ k. blockStep n (drop k s))
 
+abbrev pub madePassing : ℕ → ℕ → Passing
+madePassing x n = record { reply = x; bytes = n }
+
 -- as an answer: 0 with the bytes, or the number alone
 abbrev pub passingOf : Step → Passing
-passingOf (stops x) = record { reply = x; next = 0 }
-passingOf (passes n) = record { reply = done; next = n }
+passingOf (stops x) = madePassing x 0
+passingOf (passes n) = madePassing done n
 
 -- a recording of so many channels: its own check save 11
 abbrev pub walkBlocks : ℕ → List ℕ → Check

@@ -1,7 +1,7 @@
 -- Sound stored frames, one after the other.
 -- Assumes nothing.
 use mathlib.Core.Path.{_≡_}
-use mathlib.Core.List.{List, [], _∷_}
+use mathlib.Core.List.{List}
 use Prim.Native.Nat.{ℕ, _+_}
 use lib.ListN.{length}
 use Rattle.prefix.specs.Sizes.{modeBytes}

@@ -1,6 +1,6 @@
 -- Sound units, one after the other, of any kind.
 -- Assumes nothing.
-use mathlib.Core.List.{List, [], _∷_, _++_}
+use mathlib.Core.List.{List, [], _++_}
 use Prim.Native.Nat.{ℕ, _+_}
 
 -- so many of them, one after the other; Whole says of bytes that they are exactly one sound unit

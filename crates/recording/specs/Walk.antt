@@ -46,12 +46,16 @@ unfoldable pub onward : Step → (ℕ → Check) → Check
 onward (stops x) rest = stopped x
 onward (passes k) rest = ahead 1 k (rest k)
 
--- the walk with so many units still allowed: 0 where no byte is left, 15 for a byte where no unit is allowed, unread
+-- what stands at the start where so many units are still allowed: 0 where no byte is left, 15 for a byte where no unit is allowed, unread; else the unit
+unfoldable pub nextStep : (List ℕ → Step) → ℕ → List ℕ → Step
+nextStep unit n [] = stops done
+nextStep unit zero (b ∷ s) = stops tooMany
+nextStep unit (suc n) (b ∷ s) = unit (b ∷ s)
+
+-- the walk: step after step until one stops, and where no unit is allowed none passes
 unfoldable pub walkOver : (List ℕ → Step) → ℕ → List ℕ → Check
-walkOver unit zero [] = stopped done
-walkOver unit zero (b ∷ s) = stopped tooMany
-walkOver unit (suc n) [] = stopped done
-walkOver unit (suc n) (b ∷ s) = onward (unit (b ∷ s)) (λ k. walkOver unit n (drop k (b ∷ s)))
+walkOver unit zero s = onward (nextStep unit zero s) (λ k. stopped tooMany)
+walkOver unit (suc n) s = onward (nextStep unit (suc n) s) (λ k. walkOver unit n (drop k s))
 
 abbrev pub walk : ℕ → List ℕ → Check
 walk n s = walkOver frameStep n s

@@ -8,8 +8,8 @@ pub struct Check {
     pub place: usize,
 }
 
-// What one block answers: 0 with its bytes, or the number of the frame that stops it.
+// What stands at a place: 0 with the bytes of a sound unit, or no bytes and the number with which the walk ends there.
 pub struct Passing {
     pub reply: u8,
-    pub next: usize,
+    pub bytes: usize,
 }

@@ -1,10 +1,11 @@
 // The file check (01, File check): every frame of a recording read in full, its sound frames counted and held against a booking. One walk serves
 // one channel and several: it goes from block to block, and with one channel a block is a frame (02, No. 2).
 ghost use mathlib.Core.Path.{_≡_};
-ghost use Prim.Native.Nat.{_≤_};
-ghost use Rattle.recording.specs.Walk.{madeCheck, checkOf};
+ghost use Prim.Native.Nat.{_-_, _≤_};
+ghost use lib.ListN.{drop};
+ghost use Rattle.recording.specs.Walk.{nextStep, mostFrames, madeCheck, checkOf};
 ghost use Rattle.recording.specs.Inner.{isSound, replyBehind};
-ghost use Rattle.recording.specs.Blocks.{isCount, blockStep, passingOf, walkBlocks, checkBlocks};
+ghost use Rattle.recording.specs.Blocks.{isCount, blockStep, madePassing, passingOf, walkBlocks, checkBlocks};
 use answer::Check;
 use answer::Passing;
 use ground::replies::CUT;
@@ -16,8 +17,8 @@ use ground::replies::TOO_MANY;
 
 pub mod answer;
 
-// The most sound blocks of a recording.
-const MOST_BLOCKS: u32 = 3000;
+// The most sound units of a recording: frames, or blocks of several channels.
+const MOST_UNITS: u32 = 3000;
 
 // Whether a recording may have so many channels: 1 to 8.
 pub fn is_count(channels: usize) -> bool
@@ -62,6 +63,12 @@ fn reply_behind(frames: usize, reply: u8) -> u8
     reply
 }
 
+fn made_passing(reply: u8, bytes: usize) -> Passing
+    ensures { λ p. ⌜ p ≡ madePassing reply bytes ⌝ }
+{
+    Passing { reply, bytes }
+}
+
 // Passes the block at the start of a slice: each of its frames is read in full, and the first that is not sound stops it.
 pub fn pass_block(src: &[u8], channels: usize) -> Passing
     ensures { λ p. ⌜ p ≡ passingOf (blockStep channels (now (src .entry))) ⌝ }
@@ -72,41 +79,42 @@ pub fn pass_block(src: &[u8], channels: usize) -> Passing
         let one = frame::read_record(&src[at..]);
         let reply = one.reply;
         if !is_sound(reply) {
-            return Passing {
-                reply: reply_behind(c, reply),
-                next: 0,
-            };
+            return made_passing(reply_behind(c, reply), 0);
         }
         at += one.next;
         c += 1;
     }
-    Passing {
-        reply: DONE,
-        next: at,
-    }
+    made_passing(DONE, at)
 }
 
-// Walks over a recording of several channels: stops at a block that is not sound, with the number of its frame; 15 for a byte after 3,000 blocks; 0 at
-// the end.
+// One step of the walk: what stands at a place behind so many sound units. The end is 0 and no bytes; a byte behind 3,000 units is 15, unread.
+pub fn step(src: &[u8], at: usize, count: u32, channels: usize) -> Passing
+    ensures { λ p. ⌜ p ≡ passingOf (nextStep (blockStep channels) (mostFrames - count) (drop at (now (src .entry)))) ⌝ }
+{
+    if src.len() <= at {
+        return made_passing(DONE, 0);
+    }
+    if MOST_UNITS <= count {
+        return made_passing(TOO_MANY, 0);
+    }
+    pass_block(&src[at..], channels)
+}
+
+// Walks over a recording of several channels, step by step, until one has no bytes: its number, the sound blocks in front of it and its place.
 pub fn walk_blocks(src: &[u8], channels: usize) -> Check
     requires { ⌜ 1 ≤ channels ⌝ }
     ensures { λ c. ⌜ c ≡ walkBlocks channels (now (src .entry)) ⌝ }
 {
     let mut at: usize = 0;
     let mut count: u32 = 0;
-    while at < src.len() {
-        if count == MOST_BLOCKS {
-            return made_check(TOO_MANY, count, at);
+    loop {
+        let one = step(src, at, count, channels);
+        if one.bytes == 0 {
+            return made_check(one.reply, count, at);
         }
-        let one = pass_block(&src[at..], channels);
-        let reply = one.reply;
-        if reply != DONE {
-            return made_check(reply, count, at);
-        }
-        at += one.next;
+        at += one.bytes;
         count += 1;
     }
-    made_check(DONE, count, at)
 }
 
 // Checks a recording of several channels: what the walk says, and at the end 11 if the count of blocks is not as booked.

@@ -16,7 +16,7 @@ use Rattle.frame.specs.Answers as frame
 use Rattle.frame.specs.Answers.{sound, readAnswer, readingOf, stoppedAt}
 use Rattle.frame.specs.declared.Reading.{Reading}
 use Rattle.recording.specs.Walk.{passes, storedAt}
-use Rattle.recording.proofs.Laws.Turns.{lent}
+use Rattle.recording.proofs.Laws.Reads.{lent}
 use Rattle.recording.specs.Blocks.{blockStep, passingOf}
 use Rattle.recording.specs.declared.answer.Passing.{Passing}
 use Rattle.recording.proofs.Laws.Blocks.{block-told}

@@ -5,7 +5,7 @@ use native.Mathlib.Omega.{arith}
 use denote.Ref.{now}
 use lib.ListN.{drop, length-drop}
 use Rattle.prefix.specs.Prefix.{prefixOf}
-use Rattle.recording.proofs.Laws.Turns.{lent}
+use Rattle.recording.proofs.Laws.Reads.{lent}
 use Rattle.frames.specs.Places.{saidBytes}
 use Rattle.frames.proofs.Laws.Places.{size-none, size-short, size-said}
 use Rattle.frames.proofs.size_at.Statement.{statement}

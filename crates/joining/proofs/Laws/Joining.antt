@@ -21,6 +21,7 @@ use Rattle.ground.proofs.Laws.Sums.{sum-more, sum-same, sum-none, sum-both, sum
 use Rattle.ground.specs.Laying.{laidText, Laid}
 use Rattle.ground.proofs.Laws.Laying.{laid-none, laid-front, laid-long, then}
 use Rattle.ground.specs.Replies.{done, shortRoom, wrongChannels}
+use Rattle.recording.specs.Walk.{mostFrames}
 use Rattle.recording.specs.Blocks.{isCount, walkBlocks}
 use Rattle.recording.specs.declared.answer.Check.{Check}
 use Rattle.recording.proofs.Laws.Blocks.{counted}
@@ -356,7 +357,7 @@ module _ {src lengths out₀ : List ℕ} {blocks : ℕ} {out : List ℕ} {t : Tu
 
 -- ---- the bytes of all
 
-pub own-placed : (s : List ℕ) → walkBlocks 1 s .reply ≡ 0 → (placeOf s (walkBlocks 1 s .count) ≡ length s) × (walkBlocks 1 s .count ≤ 3000)
+pub own-placed : (s : List ℕ) → walkBlocks 1 s .reply ≡ 0 → (placeOf s (walkBlocks 1 s .count) ≡ length s) × (walkBlocks 1 s .count ≤ mostFrames)
 own-placed s z = (placed-all (own-frames s z), walk-sound 1 (omega arith) s z .1)
 
 length-block : (n : ℕ) (r : ℕ → List ℕ) (b : ℕ) → length (blockOf n r b) ≡ sumTo (λ c. sizeAt (drop (placeOf (r c) b) (r c))) n
@@ -436,7 +437,7 @@ joined-long src lengths L C =
     ∙ sum-same (λ c. placeOf (r c) k) (nth lengths) n
     (λ c h. ap (placeOf (r c)) (sym (C .equal c h)) ∙ own-placed (r c) (C .sound c h) .0 ∙ length-recording src lengths L c h)
 
-pub joined-few : (src lengths : List ℕ) → 1 ≤ length lengths → Common (ownCheck src lengths) (length lengths) → ownCheck src lengths 0 .count ≤ 3000
+pub joined-few : (src lengths : List ℕ) → 1 ≤ length lengths → Common (ownCheck src lengths) (length lengths) → ownCheck src lengths 0 .count ≤ mostFrames
 joined-few src lengths h C = own-placed (recordingAt src lengths 0) (C .sound 0 (omega arith)) .1
 
 -- ---- the answer
@@ -496,7 +497,7 @@ module _ {src lengths : List ℕ} (e : isCount (length lengths) ≡ true) (L : L
   count-is : found .count ≡ ownCheck src lengths 0 .count
   count-is = ap (λ (x : Copied). x .count) (f ∙ checked .said)
 
-  pub found-few : found .count ≤ 3000
+  pub found-few : found .count ≤ mostFrames
   found-few = omega (arith, count-is, joined-few src lengths (counted (length lengths) e .0) checked)
 
   pub found-long : length (joined (length lengths) (found .count) (recordingAt src lengths)) ≡ startOf lengths (length lengths)

@@ -2,7 +2,7 @@
 use mathlib.Core.Path.{sym}
 use native.Mathlib.Omega.{arith}
 use lib.Seq.{length-take-le}
-use Rattle.listing.proofs.Laws.Whole.{listed-within}
+use Rattle.listing.proofs.Laws.InRoom.{listed-within}
 use borrow.Author.Needs.{needs}
 use Rattle.lister.proofs.write_listing.Statement.{statement}
 use Rattle.lister.proofs.write_listing.Tie as tie

@@ -11,13 +11,13 @@ use lib.ListN.{length, drop}
 use Rattle.ground.specs.Replies.{done, noData, tooMany}
 use Rattle.prefix.specs.Sizes.{modeBytes}
 use Rattle.frame.specs.Answers.{Outcome, refused, empty, sound}
-use Rattle.recording.specs.Walk.{storedAt, stepOf, onward, walkOver, walk, mostFrames}
+use Rattle.recording.specs.Walk.{storedAt, stepOf, onward, nextStep, walkOver, walk, mostFrames}
 use Rattle.recording.proofs.Laws.Walk.{Fits, stored-fits}
 use Rattle.recording.specs.declared.answer.Check.{Check}
 use Rattle.decimals.specs.Decimals.{digit, digits, decimalBy, decimal}
 use Rattle.listing.specs.Text.{frameLine, totalLine}
 use Rattle.listing.specs.Listing.{lineOf, lines, totalOf, mostBytes, listingOf}
-use Rattle.listing.proofs.Laws.Whole.{listing-lines}
+use Rattle.listing.proofs.Laws.InRoom.{listing-lines}
 
 -- how many newlines a text has
 unfoldable pub newlines : List ℕ → ℕ
@@ -82,7 +82,7 @@ line-counted number s (sound mode x) f rest w h =
     omega (arith, newlines-append (frameLine number done n) (rest (n + 1)), line-one number done n, h (n + 1))
 
 lines-counted : (n number : ℕ) (s : List ℕ) → newlines (lines n number s) ≡ walk n s .count + refusedLines (walk n s .reply)
-unfolding lines walkOver newlines refusedLines
+unfolding lines walkOver nextStep onward newlines refusedLines
 lines-counted zero number [] = refl
 lines-counted zero number (b ∷ s) = refl
 lines-counted (suc n) number [] = refl

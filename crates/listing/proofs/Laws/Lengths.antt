@@ -1,101 +1,66 @@
 -- How long a listing is: a line has at most 11 bytes, the total line at most 30, so every listing fits its room.
 -- Assumes nothing.
-use mathlib.Core.Path.{_≡_, refl, sym, ap, subst}
-use mathlib.Core.List.{List, [], _∷_, _++_, append-nil}
-use Prim.Native.Nat.{ℕ, zero, suc, _+_, _-_, _*_, _≤_, _<_}
+use mathlib.Core.Path.{_≡_, ap}
+use mathlib.Core.List.{List, [], _∷_}
+use Prim.Native.Nat.{ℕ, zero, suc, _+_, _*_, _≤_, _<_}
 use native.Mathlib.Omega.{arith}
 use borrow.Author.Tests.{ltb-false}
 use lib.Dec.{ltb}
 use lib.ListN.{length, drop, length-append}
 use Rattle.ground.specs.Cases.{by-bool}
-use Rattle.ground.specs.Replies.{done}
+use Rattle.ground.specs.Replies.{done, noData}
 use Rattle.prefix.specs.Sizes.{modeBytes}
 use Rattle.prefix.proofs.Laws.Sizes.{mode-bounds}
-use Rattle.frame.specs.Answers.{Outcome, refused, empty, sound, readingOf}
+use Rattle.frame.specs.Answers.{Outcome, refused, empty, sound}
 use Rattle.recording.specs.Walk.{storedAt, frameStep, walk, mostFrames}
 use Rattle.recording.proofs.Laws.Walk.{Fits, stored-fits}
 use Rattle.recording.proofs.Laws.Units.{Stop, ended, passed, met, walk-told}
 use Rattle.recording.proofs.Laws.Frames.{frame-lawful}
 use Rattle.recording.specs.declared.answer.Check.{Check}
-use Rattle.listing.specs.Text.{frameLine}
-use Rattle.decimals.proofs.Laws.Numbers.{length-decimal}
-use Rattle.listing.proofs.Laws.Numbers.{length-line, length-total}
+use Rattle.decimals.specs.Decimals.{decimal}
+use Rattle.decimals.proofs.Laws.Numbers.{length-digits, length-decimal}
+use Rattle.listing.specs.Text.{frameLine, totalLine}
 use Rattle.listing.specs.Listing.{lineOf, lines, totalOf, mostBytes, listingOf, room}
 
--- ---- the line of a frame, as its reading gives it
+pub length-line : (number reply bytes : ℕ) → length (frameLine number reply bytes) ≡ 7 + (length (decimal reply) + length (decimal bytes))
+unfolding frameLine
+length-line number reply bytes = simp length-append (omega (arith, length-digits 4 number))
 
-abbrev pub lineRead : ℕ → Outcome → List ℕ
-lineRead number o = frameLine number (readingOf o .reply) (readingOf o .next - 1)
+pub length-total : (count reply place : ℕ)
+    → length (totalLine count reply place) ≡ 19 + (length (decimal count) + (length (decimal reply) + length (decimal place)))
+unfolding totalLine
+length-total count reply place = simp length-append (omega arith)
 
--- the lines behind a frame
-abbrev pub behind : Outcome → (ℕ → List ℕ) → List ℕ
-behind (refused x) rest = []
-behind empty rest = rest 1
-behind (sound mode x) rest = rest (modeBytes mode + 1)
+-- ---- the lines
 
-line-read : (number : ℕ) (o : Outcome) (rest : ℕ → List ℕ) → lineOf number o rest ≡ lineRead number o ++ behind o rest
+line-short : (number : ℕ) (s : List ℕ) (o : Outcome) → Fits s o → (rest : ℕ → List ℕ) (n : ℕ) → ((k : ℕ) → length (rest k) ≤ n)
+    → length (lineOf number o rest) ≤ 11 + n
 unfolding lineOf
-line-read number (refused x) rest = sym (append-nil (frameLine number x 0))
-line-read number empty rest = refl
-line-read number (sound mode x) rest =
-    let e : modeBytes mode ≡ modeBytes mode + 1 - 1 = omega arith in
-    ap (λ (n : ℕ). frameLine number done n ++ rest (modeBytes mode + 1)) e
-
-pub lines-some : (n number : ℕ) (s : List ℕ) → 0 < length s
-    → lines (suc n) number s ≡ lineRead number (storedAt s) ++ behind (storedAt s) (λ k. lines n (number + 1) (drop k s))
-unfolding lines
-lines-some n number [] h = absurd (omega arith)
-lines-some n number (b ∷ s) h = line-read number (storedAt (b ∷ s)) (λ k. lines n (number + 1) (drop k (b ∷ s)))
-
-pub lines-end : (n number : ℕ) (s : List ℕ) → length s ≡ 0 → lines n number s ≡ []
-unfolding lines
-lines-end zero number s h = refl
-lines-end (suc n) number [] h = refl
-lines-end (suc n) number (b ∷ s) h = absurd (omega arith)
-
-pub lines-full : (number : ℕ) (s : List ℕ) → lines 0 number s ≡ []
-unfolding lines
-lines-full number s = refl
-
--- ---- the lengths
-
--- a body has at most 320 bytes
-pub small : (s : List ℕ) (o : Outcome) → Fits s o → readingOf o .next - 1 ≤ 320
-small s (refused x) f = omega arith
-small s empty f = omega arith
-small s (sound mode x) f = omega (arith, mode-bounds mode (f .0) .1)
-
-line-short : (number : ℕ) (s : List ℕ) (o : Outcome) → Fits s o → length (lineRead number o) ≤ 11
-line-short number s (refused x) f =
+line-short number s (refused x) f rest n h =
     omega (arith, length-line number x 0, length-decimal 0 x (omega (arith, f .1)), length-decimal 0 0 (omega arith))
-line-short number s empty f =
-    omega (arith, length-line number 14 0, length-decimal 1 14 (omega arith), length-decimal 0 0 (omega arith))
-line-short number s (sound mode x) f =
-    let n = modeBytes mode + 1 - 1 in
-    omega (arith, length-line number 0 n, length-decimal 0 0 (omega arith), length-decimal 2 n (omega (arith, mode-bounds mode (f .0) .1)))
-
-behind-short : (o : Outcome) (rest : ℕ → List ℕ) (n : ℕ) → ((k : ℕ) → length (rest k) ≤ n) → length (behind o rest) ≤ n
-behind-short (refused x) rest n h = omega arith
-behind-short empty rest n h = h 1
-behind-short (sound mode x) rest n h = h (modeBytes mode + 1)
+line-short number s empty f rest n h =
+    let l = length-line number noData 0 in
+    omega (arith, l, length-decimal 1 14 (omega arith), length-decimal 0 0 (omega arith), length-append (frameLine number noData 0) (rest 1), h 1)
+line-short number s (sound mode x) f rest n h =
+    let m = modeBytes mode in
+    let l = length-line number done m in
+    let d = length-decimal 2 m (omega (arith, mode-bounds mode (f .0) .1)) in
+    omega (arith, l, length-decimal 0 0 (omega arith), d, length-append (frameLine number done m) (rest (m + 1)), h (m + 1))
 
 pub lines-short : (n number : ℕ) (s : List ℕ) → length (lines n number s) ≤ 11 * n
-lines-short zero number s = rw (lines-full number s) (omega arith)
-lines-short (suc n) number [] = rw (lines-end (suc n) number [] refl) (omega arith)
+unfolding lines
+lines-short zero number s = omega arith
+lines-short (suc n) number [] = omega arith
 lines-short (suc n) number (b ∷ s) =
-    let o = storedAt (b ∷ s) in
     let rest : ℕ → List ℕ = λ k. lines n (number + 1) (drop k (b ∷ s)) in
-    omega (
-      arith,
-      ap length (lines-some n number (b ∷ s) (omega arith)),
-      length-append (lineRead number o) (behind o rest),
-      line-short number (b ∷ s) o (stored-fits (b ∷ s) (omega arith)),
-      behind-short o rest (11 * n) (λ k. lines-short n (number + 1) (drop k (b ∷ s))),
-    )
+    let l = line-short number (b ∷ s) (storedAt (b ∷ s)) (stored-fits (b ∷ s) (omega arith)) rest (11 * n) (λ k. lines-short n (number + 1) (drop k (b ∷ s))) in
+    omega (arith, l)
+
+-- ---- the total line
 
 -- what the total line prints
 pub record Bounded (src : List ℕ) (w : Check) : Type 0 where
-  pub few : w .count ≤ 3000
+  pub few : w .count ≤ mostFrames
   pub number : w .reply < 100
   pub inside : w .place ≤ length src
 

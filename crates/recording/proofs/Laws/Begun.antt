@@ -15,7 +15,7 @@ use Rattle.ground.specs.Cases.{by-bool}
 use Rattle.ground.specs.Replies.{done, noByte, cut}
 use Rattle.recording.specs.Walk.{Step, stops, passes, frameStep}
 use Rattle.recording.proofs.Laws.Frames.{frame-lawful}
-use Rattle.recording.specs.Blocks.{further, within, followed, blockStep, passingOf}
+use Rattle.recording.specs.Blocks.{further, within, followed, blockStep, madePassing, passingOf}
 use Rattle.recording.specs.Inner.{replyBehind}
 
 pub behind-first : (c x : ℕ) → c ≡ 0 → x ≡ replyBehind c x
@@ -73,7 +73,7 @@ module _ {src : List ℕ} {n at c : ℕ} (B : Begun src n at c) where
       let q : n - c ≡ suc (n - (c + 1)) = omega arith in
       ap (λ (k : ℕ). blockStep k (drop at src)) q ∙ ap (λ (x : Step). followed x (λ k. blockStep (n - (c + 1)) (drop k (drop at src)))) e
 
-  pub begun-stop : c < n → (x : ℕ) → frameStep (drop at src) ≡ stops x → record { reply = replyBehind c x; next = 0 } ≡ passingOf (blockStep n src)
+  pub begun-stop : c < n → (x : ℕ) → frameStep (drop at src) ≡ stops x → madePassing (replyBehind c x) 0 ≡ passingOf (blockStep n src)
   begun-stop h x e = sym (ap passingOf (B .same ∙ ap (begun c at) (block-more h (stops x) e) ∙ begun-stops c at x))
 
   pub begun-next : c < n → (k : ℕ) → frameStep (drop at src) ≡ passes k → Begun src n (at + k) (c + 1)
@@ -87,7 +87,7 @@ module _ {src : List ℕ} {n at c : ℕ} (B : Begun src n at c) where
             ∙ ap (λ (s : List ℕ). begun (c + 1) (at + k) (blockStep (n - (c + 1)) s)) (drop-drop k at src);
       }
 
-  pub begun-end : n ≤ c → record { reply = done; next = at } ≡ passingOf (blockStep n src)
+  pub begun-end : n ≤ c → madePassing done at ≡ passingOf (blockStep n src)
   unfolding blockStep
   begun-end h =
       let q : n - c ≡ 0 = omega arith in

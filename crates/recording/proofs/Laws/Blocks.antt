@@ -2,26 +2,27 @@
 -- it is a frame.
 -- Assumes nothing.
 use mathlib.Core.Path.{_≡_, refl, sym, ap, ap₂, _∙_, subst}
-use mathlib.Core.Bool.{Bool, true, false, cond}
-use mathlib.Core.List.{List, [], _∷_, _++_, append-assoc}
+use mathlib.Core.Bool.{true, false, cond}
+use mathlib.Core.List.{List, _++_, append-assoc}
 use Prim.Native.Nat.{ℕ, zero, suc, _+_, _-_, _≤_, _<_}
 use native.Mathlib.Nat.{add-zero}
 use native.Mathlib.Omega.{arith}
 use lib.Dec.{eqb, ltb}
 use lib.ListN.{length, take, drop, length-append, length-drop}
-use lib.Seq.{drop-at, take-add, length-take-le}
-use borrow.Author.Tests.{eqb-true, eqb-false, ltb-true, ne-eqb, lt-ltb}
+use lib.Seq.{drop-at, take-add}
+use borrow.Author.Tests.{eqb-false, ltb-true, ne-eqb, lt-ltb}
 use Rattle.ground.specs.Cases.{by-bool}
 use Rattle.ground.specs.Replies.{noByte, cut}
 use Rattle.frame.specs.Answers.{Outcome, refused, empty, sound}
-use Rattle.recording.specs.Walk.{Step, stops, passes, stepOf, frameStep, storedAt, booked, mostFrames, checkOver, checkOf, walkOver}
-use Rattle.recording.proofs.Laws.Walk.{walk-same}
-use Rattle.recording.specs.Units.{Units, none, more}
+use Rattle.recording.specs.Walk.{Step, stops, passes, stepOf, frameStep, storedAt, nextStep, booked, mostFrames, checkOver, checkOf}
+use Rattle.recording.proofs.Laws.Walk.{next-same, walk-same}
+use Rattle.recording.specs.Units.{none, more}
 use Rattle.recording.proofs.Laws.Units.{Lawful}
 use Rattle.recording.specs.Frames.{Stored, Frames}
 use Rattle.recording.proofs.Laws.Frames.{frame-lawful}
-use Rattle.recording.proofs.Laws.Turns.{refused-low}
-use Rattle.recording.specs.Blocks.{further, within, followed, isCount, blockStep, checkBlocks, Blocks}
+use Rattle.recording.proofs.Laws.Reads.{refused-low}
+use Rattle.recording.specs.Blocks.{further, within, followed, isCount, blockStep, passingOf, checkBlocks}
+use Rattle.recording.specs.declared.answer.Passing.{Passing}
 
 module _ (n : ℕ) (s : List ℕ) where
   -- the block by its first frame
@@ -122,15 +123,21 @@ block-lawful n h =
 
 -- ---- one channel
 
-one-step : (s : List ℕ) (o : Step) → frameStep s ≡ o → blockStep 1 s ≡ o
+one-block : (s : List ℕ) → blockStep 1 s ≡ frameStep s
 unfolding blockStep
-one-step s (stops x) e = block-first 0 s (stops x) e
-one-step s (passes k) e = block-passed 0 s k e (passes 0) refl ∙ ap passes (add-zero k)
+one-block s = go (frameStep s) refl
+  where
+    go : (o : Step) → frameStep s ≡ o → blockStep 1 s ≡ o
+    go (stops x) e = block-first 0 s (stops x) e
+    go (passes k) e = block-passed 0 s k e (passes 0) refl ∙ ap passes (add-zero k)
 
--- with one channel a block is a frame, and its check the file check
+-- with one channel a block is a frame: a step of the walk tells of frames, and the check is the file check
+pub one-told : (n : ℕ) (s : List ℕ) {p : Passing} → p ≡ passingOf (nextStep (blockStep 1) n s) → p ≡ passingOf (nextStep frameStep n s)
+one-told n s e = e ∙ ap passingOf (next-same (blockStep 1) frameStep one-block n s)
+
 pub one-channel : (src : List ℕ) (booking : ℕ) → checkBlocks 1 src booking ≡ checkOf src booking
 unfolding checkOver
-one-channel src booking = ap (booked booking) (walk-same (blockStep 1) frameStep (λ s. one-step s (frameStep s) refl) mostFrames src)
+one-channel src booking = ap (booked booking) (walk-same (blockStep 1) frameStep one-block mostFrames src)
 
 -- ---- the count of channels
 

@@ -24,7 +24,7 @@ use Rattle.frame.specs.Layout.{Frame, frame}
 use Rattle.frame.specs.Answers.{Outcome, refused, empty, sound, outcome, readBody, bodyOf, started}
 use Rattle.frame.proofs.Laws.Reads.{read-started, data-cut, data-whole}
 use Rattle.recording.specs.declared.answer.Check.{Check}
-use Rattle.recording.specs.Walk.{storedAt, madeCheck, stopped, ahead, Step, stops, passes, onward, walkOver, booked}
+use Rattle.recording.specs.Walk.{storedAt, madeCheck, stopped, ahead, Step, stops, passes, onward, nextStep, walkOver, booked}
 
 pub made-same : {x y k j n m : ℕ} → x ≡ y → k ≡ j → n ≡ m → madeCheck x k n ≡ madeCheck y j m
 made-same e f g = rw (e, f, g)
@@ -106,49 +106,73 @@ started-fits s (Data f) h q =
 pub stored-fits : (s : List ℕ) → 0 < length s → Fits s (storedAt s)
 stored-fits s h = subst (Fits s) (sym (stored-started s)) (started-fits s (prefixOf s) h refl)
 
--- ---- the walk by its cases
+-- ---- what stands at the start
 
 module _ (unit : List ℕ → Step) where
+  pub next-end : (n : ℕ) (s : List ℕ) → length s ≡ 0 → nextStep unit n s ≡ stops done
+  unfolding nextStep
+  next-end n [] h = refl
+  next-end n (b ∷ s) h = absurd (omega arith)
+
+  pub next-full : (s : List ℕ) → 0 < length s → nextStep unit 0 s ≡ stops tooMany
+  unfolding nextStep
+  next-full [] h = absurd (omega arith)
+  next-full (b ∷ s) h = refl
+
+  pub next-unit : (n : ℕ) (s : List ℕ) → 0 < length s → nextStep unit (suc n) s ≡ unit s
+  unfolding nextStep
+  next-unit n [] h = absurd (omega arith)
+  next-unit n (b ∷ s) h = refl
+
+  -- only a unit that is allowed passes
+  pub next-passes : (n : ℕ) (s : List ℕ) (k : ℕ) → nextStep unit n s ≡ passes k → (1 ≤ n) × (unit s ≡ passes k)
+  unfolding nextStep
+  next-passes n [] k e = absurd (let z : _≡_ {A = ℕ} 0 1 = cc in omega arith)
+  next-passes zero (b ∷ s) k e = absurd (let z : _≡_ {A = ℕ} 0 1 = cc in omega arith)
+  next-passes (suc n) (b ∷ s) k e = (omega arith, e)
+
+  -- ---- the walk by its steps
+
+  pub walk-stop : (n : ℕ) (s : List ℕ) (x : ℕ) → nextStep unit n s ≡ stops x → walkOver unit n s ≡ stopped x
+  unfolding walkOver onward
+  walk-stop zero s x e = ap (λ (o : Step). onward o (λ k. stopped tooMany)) e
+  walk-stop (suc n) s x e = ap (λ (o : Step). onward o (λ k. walkOver unit n (drop k s))) e
+
+  on : (n : ℕ) (s : List ℕ) (k : ℕ) → nextStep unit (suc n) s ≡ passes k → walkOver unit (suc n) s ≡ ahead 1 k (walkOver unit n (drop k s))
+  unfolding walkOver onward
+  on n s k e = ap (λ (o : Step). onward o (λ j. walkOver unit n (drop j s))) e
+
+  pub walk-pass : (n : ℕ) (s : List ℕ) (k : ℕ) → nextStep unit n s ≡ passes k → walkOver unit n s ≡ ahead 1 k (walkOver unit (n - 1) (drop k s))
+  walk-pass zero s k e = absurd (omega (arith, next-passes 0 s k e .0))
+  walk-pass (suc n) s k e = let m : n ≡ suc n - 1 = omega arith in on n s k e ∙ ap (λ (i : ℕ). ahead 1 k (walkOver unit i (drop k s))) m
+
   pub walk-end : (n : ℕ) (s : List ℕ) → length s ≡ 0 → walkOver unit n s ≡ stopped done
-  unfolding walkOver
-  walk-end zero [] h = refl
-  walk-end (suc n) [] h = refl
-  walk-end n (b ∷ s) h = absurd (omega arith)
+  walk-end n s h = walk-stop n s done (next-end n s h)
 
   pub walk-full : (s : List ℕ) → 0 < length s → walkOver unit 0 s ≡ stopped tooMany
-  unfolding walkOver
-  walk-full [] h = absurd (omega arith)
-  walk-full (b ∷ s) h = refl
+  walk-full s h = walk-stop 0 s tooMany (next-full s h)
 
-  walk-some : (n b : ℕ) (s : List ℕ) → walkOver unit (suc n) (b ∷ s) ≡ onward (unit (b ∷ s)) (λ k. walkOver unit n (drop k (b ∷ s)))
-  unfolding walkOver
-  walk-some n b s = refl
+  pub walk-stops : (n : ℕ) (s : List ℕ) → 0 < length s → (x : ℕ) → unit s ≡ stops x → walkOver unit (suc n) s ≡ stopped x
+  walk-stops n s h x e = walk-stop (suc n) s x (next-unit n s h ∙ e)
 
-  module _ (n : ℕ) (s : List ℕ) (h : 0 < length s) where
-    walk-onward : (o : Step) → unit s ≡ o → walkOver unit (suc n) s ≡ onward o (λ k. walkOver unit n (drop k s))
-    walk-onward o e = go s h e
-      where
-        go : (t : List ℕ) → 0 < length t → unit t ≡ o → walkOver unit (suc n) t ≡ onward o (λ k. walkOver unit n (drop k t))
-        go [] z q = absurd (omega arith)
-        go (b ∷ t) z q = walk-some n b t ∙ ap (λ (x : Step). onward x (λ k. walkOver unit n (drop k (b ∷ t)))) q
+  pub walk-passes : (n : ℕ) (s : List ℕ) → 0 < length s → (k : ℕ) → unit s ≡ passes k → walkOver unit (suc n) s ≡ ahead 1 k (walkOver unit n (drop k s))
+  walk-passes n s h k e = on n s k (next-unit n s h ∙ e)
 
-    pub walk-stops : (x : ℕ) → unit s ≡ stops x → walkOver unit (suc n) s ≡ stopped x
-    unfolding onward
-    walk-stops x e = walk-onward (stops x) e
+-- two units that agree everywhere stand alike, and are walked alike
+module _ (u v : List ℕ → Step) (e : (s : List ℕ) → u s ≡ v s) where
+  pub next-same : (n : ℕ) (s : List ℕ) → nextStep u n s ≡ nextStep v n s
+  unfolding nextStep
+  next-same n [] = refl
+  next-same zero (b ∷ s) = refl
+  next-same (suc n) (b ∷ s) = e (b ∷ s)
 
-    pub walk-passes : (k : ℕ) → unit s ≡ passes k → walkOver unit (suc n) s ≡ ahead 1 k (walkOver unit n (drop k s))
-    unfolding onward
-    walk-passes k e = walk-onward (passes k) e
-
--- two units that agree everywhere are walked alike
-pub walk-same : (u v : List ℕ → Step) → ((s : List ℕ) → u s ≡ v s) → (n : ℕ) (s : List ℕ) → walkOver u n s ≡ walkOver v n s
-unfolding walkOver onward
-walk-same u v e zero [] = refl
-walk-same u v e zero (b ∷ s) = refl
-walk-same u v e (suc n) [] = refl
-walk-same u v e (suc n) (b ∷ s) = ap (λ (x : Step). onward x (λ k. walkOver u n (drop k (b ∷ s)))) (e (b ∷ s)) ∙ go (v (b ∷ s)) (λ t. walk-same u v e n t)
-  where
-    go : (x : Step) → ((t : List ℕ) → walkOver u n t ≡ walkOver v n t)
-        → onward x (λ k. walkOver u n (drop k (b ∷ s))) ≡ onward x (λ k. walkOver v n (drop k (b ∷ s)))
-    go (stops x) h = refl
-    go (passes k) h = ap (ahead 1 k) (h (drop k (b ∷ s)))
+  pub walk-same : (n : ℕ) (s : List ℕ) → walkOver u n s ≡ walkOver v n s
+  unfolding walkOver onward
+  walk-same zero s = ap (λ (o : Step). onward o (λ k. stopped tooMany)) (next-same 0 s)
+  walk-same (suc n) s =
+      ap (λ (o : Step). onward o (λ k. walkOver u n (drop k s))) (next-same (suc n) s) ∙ go (nextStep v (suc n) s) (λ t. walk-same n t)
+    where
+      go : (o : Step) → ((t : List ℕ) → walkOver u n t ≡ walkOver v n t)
+          → onward o (λ k. walkOver u n (drop k s)) ≡ onward o (λ k. walkOver v n (drop k s))
+      go (stops x) h = refl
+      go (passes k) h = ap (ahead 1 k) (h (drop k s))

@@ -2,7 +2,7 @@
 use borrow.Author.Needs.{needs}
 use mathlib.Core.Path.{_∙_}
 use native.Mathlib.Omega.{arith}
-use Rattle.recording.proofs.Laws.Turns.{check-missed, check-agreed, check-other}
+use Rattle.recording.proofs.Laws.Walked.{check-missed, check-agreed, check-other}
 use Rattle.recording.proofs.check_blocks.Statement.{statement}
 use Rattle.recording.proofs.check_blocks.Tie as tie
 

@@ -8,8 +8,8 @@ use mathlib.Core.Path.{_≡_, _∙_, sym, ap}
 use native.Mathlib.Omega.{arith}
 use Rattle.frame.specs.Answers.{readingOf}
 use Rattle.recording.specs.Walk.{storedAt}
-use Rattle.recording.proofs.Laws.Turns.{told-record, reading-stops, reading-passes}
-use Rattle.recording.specs.declared.answer.Passing.{Passing}
+use Rattle.recording.specs.Blocks.{madePassing}
+use Rattle.recording.proofs.Laws.Reads.{told-record, reading-stops, reading-passes}
 use Rattle.recording.proofs.Laws.Begun.{Begun, begun-none, begun-stop, begun-next, begun-end}
 use Rattle.recording.proofs.pass_block.Statement.{statement}
 use Rattle.recording.proofs.pass_block.Tie as tie
@@ -30,12 +30,13 @@ read r =
 
 returns : tie.Need-returns Inv-loop μ-loop
 returns c =
+    let p : tie.After-made-passing Inv-loop μ-loop = search in
     let b : tie.After-reply-behind Inv-loop μ-loop = search in
     let s : tie.After-is-sound Inv-loop μ-loop = search in
     let r : tie.After-read-record Inv-loop μ-loop = search in
     let l : tie.At-loop Inv-loop μ-loop = search in
     let t : tie.Then1 Inv-loop μ-loop = search in
-    ap (λ (x : ℕ). let p : Passing = record { reply = x; next = 0 } in p) (b .reply-behind .ensures)
+    p .made-passing .ensures ∙ ap (λ (x : ℕ). madePassing x 0) (b .reply-behind .ensures)
     ∙ begun-stop (l .loop .inv) (omega arith) _ (reading-stops _ _ (read r) (sym (s .is-sound .ensures) ∙ not-true _ (t .if1 .taken)))
 
 loop-again : tie.Need-loop-again Inv-loop μ-loop
@@ -45,6 +46,12 @@ loop-again c =
     let l : tie.At-loop Inv-loop μ-loop = search in
     let e : tie.Else1 Inv-loop μ-loop = search in
     begun-next (l .loop .inv) (omega arith) _ (reading-passes _ _ (read r) (sym (s .is-sound .ensures) ∙ not-false _ (e .if1 .left)))
+
+returns-2 : tie.Need-returns-2 Inv-loop μ-loop
+returns-2 c =
+    let p : tie.After-made-passing2 Inv-loop μ-loop = search in
+    let l : tie.At-loop Inv-loop μ-loop = search in
+    p .made-passing2 .ensures ∙ begun-end (l .loop .inv) (omega arith)
 
 pub pass-block-spec : {M : Type 1} → statement M
 pass-block-spec =
@@ -59,9 +66,11 @@ pass-block-spec =
     (λ c κs. search needs)
     (λ c κs. search needs)
     (λ c κs. search needs)
+    (λ c κs. search needs)
     returns
     (λ c. omega (arith, loop-again c .inside))
     (λ c. search needs)
     (λ c. search needs)
     loop-again
-    (λ c. let l : tie.At-loop Inv-loop μ-loop = search in begun-end (l .loop .inv) (omega arith)))
+    (λ c κs. search needs)
+    returns-2)

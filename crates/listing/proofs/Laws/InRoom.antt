@@ -1,4 +1,4 @@
--- The whole listing: the lines and the total line behind them, or the one line for an input that is too long, or no room.
+-- A listing in its room: the lines and the total line behind them, or the one line for an input that is too long; or no room.
 -- Assumes nothing.
 use mathlib.Core.Path.{_≡_, sym, ap, _∙_, subst}
 use mathlib.Core.List.{List, _++_}
@@ -11,7 +11,7 @@ use Rattle.ground.specs.Cases.{by-bool}
 use Rattle.ground.specs.Replies.{done, shortRoom}
 use Rattle.recording.specs.Walk.{walk, mostFrames}
 use Rattle.listing.specs.Text.{totalLine, tooLong}
-use Rattle.ground.specs.Laying.{Laid}
+use Rattle.ground.specs.Laying.{laidText, Laid}
 use Rattle.ground.proofs.Laws.Laying.{then, laid-front, length-laid}
 use Rattle.listing.specs.Listing.{lines, totalOf, mostBytes, listingOf, room, listedIn, outAfter}
 use Rattle.listing.proofs.Laws.Lengths.{walk-bounded, lines-short, total-short, listing-short}
@@ -23,13 +23,12 @@ abbrev pub madeListing : ℕ → ℕ → Listing
 madeListing x n = record { reply = x; length = n }
 
 -- what the call promises of its answer and of its output
-pub record Kept (src out out′ : List ℕ) (r : Listing) : Type 0 where
-  pub answer : r ≡ listedIn src (length out)
-  pub bytes : out′ ≡ outAfter src out
+abbrev pub Kept : List ℕ → List ℕ → List ℕ → Listing → Type 0
+Kept src out out′ r = (r ≡ listedIn src (length out)) × (out′ ≡ outAfter src out)
 
 pub no-room : (src out : List ℕ) → length out < room → Kept src out out (madeListing shortRoom 0)
 unfolding listedIn outAfter
-no-room src out h = record { answer = rw (lt-ltb (length out) room h); bytes = rw (lt-ltb (length out) room h) }
+no-room src out h = (rw (lt-ltb (length out) room h), rw (lt-ltb (length out) room h))
 
 -- the length that is answered lies within the output
 pub listed-within : (src : List ℕ) (n : ℕ) (r : Listing) → r ≡ listedIn src n → r .length ≤ n
@@ -40,16 +39,8 @@ listed-within src n r e =
     (λ t. let l′ = rw t at l in omega arith)
     (λ t. let h = ltb-false n room t in let l′ = rw t at l in omega (arith, listing-short src))
 
-pub all-laid : (src out out′ : List ℕ) (n : ℕ) → room ≤ length out → Laid out 0 (listingOf src) out′ n → Kept src out out′ (madeListing done n)
-unfolding listedIn outAfter
-all-laid src out out′ n h l =
-    record {
-      answer = rw (le-ltb (length out) room h) (ap (madeListing done) (omega (arith, l .after)));
-      bytes = rw (le-ltb (length out) room h) (l .bytes ∙ laid-front out (listingOf src) (omega (arith, listing-short src)));
-    }
-
 -- the equations of a listing: one line for an input that is too long, else the lines and the total line
-pub listing-long : (src : List ℕ) → mostBytes < length src → listingOf src ≡ tooLong
+listing-long : (src : List ℕ) → mostBytes < length src → listingOf src ≡ tooLong
 unfolding listingOf
 listing-long src h = rw (lt-ltb mostBytes (length src) h)
 
@@ -57,11 +48,19 @@ pub listing-lines : (src : List ℕ) → length src ≤ mostBytes → listingOf 
 unfolding listingOf
 listing-lines src h = rw (le-ltb mostBytes (length src) h)
 
-pub long-laid : (src out out′ : List ℕ) (n : ℕ) → room ≤ length out → mostBytes < length src → Laid out 0 tooLong out′ n
-    → Kept src out out′ (madeListing done n)
-long-laid src out out′ n h m l = all-laid src out out′ n h (subst (λ (t : List ℕ). Laid out 0 t out′ n) (sym (listing-long src m)) l)
+module _ (src out : List ℕ) (q : room ≤ length out) where
+  all-laid : {t out′ : List ℕ} {n : ℕ} → listingOf src ≡ t → Laid out 0 t out′ n → Kept src out out′ (madeListing done n)
+  unfolding listedIn outAfter
+  all-laid {t} e l = (
+    rw (le-ltb (length out) room q) (ap (madeListing done) (omega (arith, l .after, ap length e))),
+    rw (le-ltb (length out) room q) (l .bytes ∙ ap (laidText out 0) (sym e) ∙ laid-front out (listingOf src) (omega (arith, listing-short src))),
+  )
 
-module _ (src out out₁ : List ℕ) (r : Lines) (k : Complete src out out₁ r) (h : length src ≤ mostBytes) (q : room ≤ length out) where
+  pub long-laid : {out′ : List ℕ} {n : ℕ} → mostBytes < length src → Laid out 0 tooLong out′ n → Kept src out out′ (madeListing done n)
+  long-laid h l = all-laid (listing-long src h) l
+
+-- the lines are put, and the total line has room behind them
+module _ {src out out₁ : List ℕ} {r : Lines} (k : Complete src out out₁ r) (h : length src ≤ mostBytes) (q : room ≤ length out) where
   pub total-room : (r .count < 100000) × (r .place < 100000) × (r .next + length (totalLine (r .count) (r .reply) (r .place)) ≤ length out₁)
   total-room =
       let w = walk mostFrames src in
@@ -73,9 +72,8 @@ module _ (src out out₁ : List ℕ) (r : Lines) (k : Complete src out out₁ r)
         omega (arith, total-short src h, lines-short mostFrames 0 src, ap length (k .bytes), length-laid out 0 (lines mostFrames 0 src)),
       )
 
-  pub total-laid : (out₂ : List ℕ) (n : ℕ) → Laid out₁ (r .next) (totalLine (r .count) (r .reply) (r .place)) out₂ n → Kept src out out₂ (madeListing done n)
-  total-laid out₂ n l =
-      let m : Laid out₁ (length (lines mostFrames 0 src)) (totalOf (walk mostFrames src)) out₂ n =
-      subst (λ (z : Lines). Laid out₁ (z .next) (totalLine (z .count) (z .reply) (z .place)) out₂ n) (k .answer) l in
+  pub total-laid : {out₂ : List ℕ} {n : ℕ} → Laid out₁ (r .next) (totalLine (r .count) (r .reply) (r .place)) out₂ n → Kept src out out₂ (madeListing done n)
+  total-laid {out₂} {n} l =
+      let m = subst (λ (z : Lines). Laid out₁ (z .next) (totalLine (z .count) (z .reply) (z .place)) out₂ n) (k .answer) l in
       let f : Laid out 0 (lines mostFrames 0 src) out₁ (length (lines mostFrames 0 src)) = record { after = omega arith; bytes = k .bytes } in
-      all-laid src out out₂ n q (subst (λ (t : List ℕ). Laid out 0 t out₂ n) (sym (listing-lines src h)) (then f m))
+      all-laid src out q (listing-lines src h) (then f m)
