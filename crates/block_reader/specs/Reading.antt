@@ -1,24 +1,28 @@
 -- What reading a block answers (02, No. 2): the reply, what each channel's frame reads as, and the lent memory afterwards.
 -- Assumes nothing.
 use mathlib.Core.Bool.{cond}
-use mathlib.Core.List.{List, _++_}
+use mathlib.Core.List.{List, [], _∷_, _++_}
 use Prim.Native.Nat.{ℕ, _-_, _*_}
 use lib.Dec.{eqb}
 use lib.ListN.{replicate, drop}
 use Rattle.ground.specs.Fills.{table}
 use Rattle.ground.specs.Runs.{runs, part}
+use Rattle.ground.specs.Refusals.{Cause, said, first}
 use Rattle.ground.specs.Replies.{done}
 use Rattle.frame.specs.Answers as frame
 use Rattle.frame.specs.Answers.{Outcome, readingOf, stoppedAt}
 use Rattle.recording.specs.Walk.{storedAt}
 use Rattle.recording.specs.Blocks.{blockStep, passingOf}
 use Rattle.frames.specs.Places.{placeOf}
-use Rattle.frames.specs.Rooms.{roomReply}
+use Rattle.frames.specs.Rooms.{roomCauses}
 use Rattle.block_reader.specs.declared.Block.{Block}
 
 -- 17, 10, then what the frames say
-unfoldable pub blockReply : List ℕ → ℕ → ℕ → ℕ → ℕ
-blockReply s n codes tails = cond (eqb (roomReply n codes tails) 0) (passingOf (blockStep n s) .reply) (roomReply n codes tails)
+unfoldable pub blockCauses : List ℕ → ℕ → ℕ → ℕ → List Cause
+blockCauses s n codes tails = roomCauses n codes tails ++ said (passingOf (blockStep n s) .reply) ∷ []
+
+abbrev pub blockReply : List ℕ → ℕ → ℕ → ℕ → ℕ
+blockReply s n codes tails = first (blockCauses s n codes tails)
 
 -- what channel c's frame reads as
 abbrev pub channelAt : List ℕ → ℕ → Outcome

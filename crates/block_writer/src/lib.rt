@@ -3,8 +3,10 @@ ghost use mathlib.Core.Path.{_≡_};
 ghost use mathlib.Core.List.{_++_};
 ghost use Prim.Native.Nat.{_+_, _*_, _≤_, _<_};
 ghost use lib.ListN.{length, drop};
+ghost use Rattle.ground.specs.Refusals.{first};
+ghost use Rattle.ground.specs.Runs.{runs};
 ghost use Rattle.ground.specs.Sums.{sumTo};
-ghost use Rattle.block_writer.specs.Writing.{recordAt, emptyAt, frameReply, frameOf, framesReply, blockBytes, blockReply, blockAnswer, outAfter};
+ghost use Rattle.block_writer.specs.Writing.{recordAt, emptyAt, frameCauses, causesAt, frameOf, blockBytes, blockReply, blockAnswer, outAfter};
 ghost use Rattle.block_writer.specs.Inner.{frameBytes};
 use frame::Record;
 use ground::replies::DONE;
@@ -20,7 +22,7 @@ pub struct Records {
 
 // A frame's own causes, with room for the longest: an empty frame has none.
 fn frame_reply(r: Record, empty: bool, codes: &[u16], tail: &[u8]) -> u8
-    ensures { λ x. ⌜ x ≡ frameReply r empty (now (codes .entry)) (now (tail .entry)) ⌝ }
+    ensures { λ x. ⌜ x ≡ first (frameCauses r empty (now (codes .entry)) (now (tail .entry))) ⌝ }
 {
     if empty {
         return DONE;
@@ -41,7 +43,7 @@ fn frame_bytes(r: Record, empty: bool) -> usize
 // The first frame's causes, channel by channel.
 fn frames_reply(records: Records, channels: usize, codes: &[u16], tails: &[u8]) -> u8
     requires { ⌜ (channels ≤ 8) × (channels * 800 ≤ length (now codes)) × (channels * 320 ≤ length (now tails)) ⌝ }
-    ensures { λ x. ⌜ x ≡ framesReply records (now (codes .entry)) (now (tails .entry)) channels ⌝ }
+    ensures { λ x. ⌜ x ≡ first (runs channels (causesAt records (now (codes .entry)) (now (tails .entry)))) ⌝ }
 {
     let list = records.at;
     let empties = records.empty;
@@ -98,7 +100,7 @@ fn block_reply(records: Records, channels: usize, codes: &[u16], tails: &[u8], r
 
 // Lays one frame that passes at the start of a slice that holds it; answers its bytes.
 fn put_frame(r: Record, empty: bool, codes: &[u16], tail: &[u8], out: &mut [u8]) -> usize
-    requires { ⌜ (frameReply r empty (now codes) (now tail) ≡ 0) × (frameBytes r empty ≤ length (now out)) ⌝ }
+    requires { ⌜ (first (frameCauses r empty (now codes) (now tail)) ≡ 0) × (frameBytes r empty ≤ length (now out)) ⌝ }
     ensures { λ n. ⌜ (n ≡ frameBytes r empty)
         × (now (out .exit) ≡ frameOf r empty (now (codes .entry)) (now (tail .entry)) ++ drop (frameBytes r empty) (now (out .entry))) ⌝ }
 {

@@ -1,21 +1,21 @@
 -- The FlagC choice (01, Coefficient codes): 1 exactly when words cost less than fixed codes over bands at rates 2–5.
 -- Assumes nothing.
 use mathlib.Core.Bool.{Bool, false, cond, _&&_}
-use mathlib.Core.List.{List, map}
+use mathlib.Core.List.{List, [], _∷_, _++_}
 use Prim.Native.Nat.{ℕ, _+_}
-use lib.Dec.{ltb, leb, eqb}
+use lib.Dec.{ltb, leb}
 use lib.ListN.{length, getD, take}
-use Rattle.ground.specs.Replies.{done, wideCode}
+use Rattle.ground.specs.Refusals.{Cause, first}
 use Rattle.ground.specs.Sums.{sumTo}
 use Rattle.bits.specs.Codings.{wordOf}
 use Rattle.words.specs.Tables.{coding, codeWords}
+use Rattle.norms.specs.Answers.{chosen}
 use Rattle.norms.specs.declared.Choice.{Choice}
 use Rattle.allotment.specs.Allotment.{sharesOf}
 use Rattle.kinds.specs.Kinds.{bandOf}
 use Rattle.kinds.specs.Budget.{wideIn}
 use Rattle.frame.specs.declared.Record.{Record}
-use Rattle.layout.specs.Fits.{fits}
-use Rattle.layout.specs.Parts.{total, budgetFor, kindsFor, firstOf, startReply}
+use Rattle.layout.specs.Parts.{total, budgetFor, kindsFor, startCauses, widthCause}
 
 -- rates 2–5
 unfoldable pub wordy : ℕ → Bool
@@ -52,12 +52,12 @@ wordsCost r cs = sumTo (λ i. asWord (rateAt r i) (getD cs i 0)) 800
 unfoldable pub fixedCost : Record → ℕ
 fixedCost r = sumTo (λ i. asFixed (rateAt r i)) 800
 
--- as the layout starts: 8 for the mode, 10 for under 800 numbers, 8 or 9 for the norms; then 12
-unfoldable pub choiceReply : Record → List ℕ → ℕ
-choiceReply r cs = firstOf (startReply r (length cs)) (cond (fits (map coding (kindsFor (plain r))) (take 800 cs)) done wideCode)
+-- as the layout starts: 8 for the mode, 10 for under 800 numbers, the norms' 8 and 9; then 12
+unfoldable pub choiceCauses : Record → List ℕ → List Cause
+choiceCauses r cs = startCauses r (length cs) ++ widthCause (kindsFor (plain r)) (take 800 cs) ∷ []
+
+abbrev pub choiceReply : Record → List ℕ → ℕ
+choiceReply r cs = first (choiceCauses r cs)
 
 unfoldable pub choiceOf : Record → List ℕ → Choice
-choiceOf r cs =
-    cond (eqb (choiceReply r cs) 0)
-    (record { reply = done; flag = ltb (wordsCost r cs) (fixedCost r) })
-    (record { reply = choiceReply r cs; flag = false })
+choiceOf r cs = chosen (choiceReply r cs) (ltb (wordsCost r cs) (fixedCost r))

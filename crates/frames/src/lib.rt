@@ -2,9 +2,10 @@
 ghost use mathlib.Core.Path.{_≡_};
 ghost use Prim.Native.Nat.{_≤_};
 ghost use lib.ListN.{length, drop};
+ghost use Rattle.ground.specs.Refusals.{first};
 ghost use Rattle.prefix.specs.Prefix.{prefixOf};
 ghost use Rattle.frames.specs.Places.{saidBytes, sizeAt, placeFrom};
-ghost use Rattle.frames.specs.Rooms.{roomReply};
+ghost use Rattle.frames.specs.Rooms.{roomCauses};
 use ground::replies::DONE;
 use ground::replies::SHORT_ROOM;
 use ground::replies::WRONG_CHANNELS;
@@ -65,7 +66,7 @@ pub fn place_behind(src: &[u8], at: usize, frames: usize) -> usize
 
 // 17 for other than 1 to 8 channels, 10 for under 800 numbers or 320 bytes a channel, else 0.
 pub fn room_reply(channels: usize, codes: usize, tails: usize) -> u8
-    ensures { λ r. ⌜ r ≡ roomReply channels codes tails ⌝ }
+    ensures { λ r. ⌜ r ≡ first (roomCauses channels codes tails) ⌝ }
 {
     if !recording::is_count(channels) {
         return WRONG_CHANNELS;

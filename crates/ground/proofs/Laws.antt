@@ -6,6 +6,7 @@ pub mod Fills
 pub mod Indices
 pub mod Laying
 pub mod Order
+pub mod Refusals
 pub mod Runs
 pub mod Sums
 pub mod Whole

@@ -1,15 +1,16 @@
 -- How the bits of a record's frame part (01, Allotment, Coefficient codes): the budget, the 44 rates, the bits of the codes and those left for the tail.
 -- Assumes nothing.
-use mathlib.Core.Bool.{Bool, cond}
-use mathlib.Core.List.{List, [], _∷_, map}
+use mathlib.Core.Bool.{Bool, cond, not}
+use mathlib.Core.List.{List, [], _∷_, _++_, map}
 use Prim.Native.Nat.{ℕ, _-_, _*_}
 use lib.Dec.{ltb, eqb}
 use lib.ListN.{length, replicate, take}
+use Rattle.ground.specs.Refusals.{Cause, _gives_, first}
 use Rattle.ground.specs.Replies.{done, pastBudget, outOfRange, shortRoom, wideCode}
 use Rattle.bits.specs.Codecs.{writeAll}
 use Rattle.words.specs.Tables.{coding}
 use Rattle.prefix.specs.Sizes.{modeBytes}
-use Rattle.norms.specs.Answers.{normReply}
+use Rattle.norms.specs.Answers.{normCauses}
 use Rattle.allotment.specs.Allotment.{sharesOf}
 use Rattle.kinds.specs.Kinds.{kinds}
 use Rattle.kinds.specs.Budget.{wideIn}
@@ -39,36 +40,50 @@ kindsFor r = kindsOf (total r) (flagBits r) (r .norms)
 unfoldable pub planOf : Record → Plan
 planOf r = record { budget = budgetFor r; rates = ratesFor r; kinds = kindsFor r }
 
--- ---- the replies
+-- ---- the causes, as 01 lists them
 
--- the first that is not 0
-abbrev pub firstOf : ℕ → ℕ → ℕ
-firstOf x y = cond (eqb x 0) y x
+-- 8: mode over 19
+abbrev pub modeCause : Record → Cause
+modeCause r = ltb 19 (r .mode) gives outOfRange
 
--- 8 for the mode, 10 for under 800 numbers, and what the norms say: 8 or 9
-unfoldable pub startReply : Record → ℕ → ℕ
-startReply r codes =
-    cond (ltb 19 (r .mode)) outOfRange
-    (cond (ltb codes 800) shortRoom
-    (normReply (r .transient) (r .norms)))
+-- 10: under 800 numbers
+abbrev pub numbersCause : ℕ → Cause
+numbersCause codes = ltb codes 800 gives shortRoom
 
-abbrev pub noParts : ℕ → Parts
-noParts reply = record { reply = reply; budget = 0; rates = replicate 44 0; «code_bits» = 0; «tail_bits» = 0 }
+-- before the codes: the mode, the numbers, the norms' 8 and 9
+unfoldable pub startCauses : Record → ℕ → List Cause
+startCauses r codes = modeCause r ∷ numbersCause codes ∷ normCauses (r .transient) (r .norms)
 
 -- the bits of the codes
 abbrev pub codesLong : List ℕ → List ℕ → ℕ
 codesLong kinds vs = length (writeAll (map coding kinds) vs)
 
+-- 12: a code too wide for its rate or an unused place nonzero
+abbrev pub widthCause : List ℕ → List ℕ → Cause
+widthCause kinds vs = not (fits (map coding kinds) vs) gives wideCode
+
+-- then 7: codes go past Ψ
+unfoldable pub codeCauses : ℕ → List ℕ → List ℕ → List Cause
+codeCauses budget kinds vs = widthCause kinds vs ∷ ltb budget (codesLong kinds vs) gives pastBudget ∷ []
+
+-- as the FlagC choice, 8, 10, 8, 9, 12; then 7. Noise and tail are not looked at
+unfoldable pub layoutCauses : Record → List ℕ → List Cause
+layoutCauses r cs = startCauses r (length cs) ++ codeCauses (budgetFor r) (kindsFor r) (take 800 cs)
+
+-- ---- the answer
+
+abbrev pub noParts : ℕ → Parts
+noParts reply = record { reply = reply; budget = 0; rates = replicate 44 0; «code_bits» = 0; «tail_bits» = 0 }
+
+-- what the codes leave of Ψ is the tail
 abbrev pub partsWith : ℕ → List ℕ → ℕ → Parts
 partsWith budget rates n = record { reply = done; budget = budget; rates = rates; «code_bits» = n; «tail_bits» = budget - n }
 
--- 12: a code too wide for its rate or an unused place nonzero; 7: codes go past Ψ; else what the codes leave of Ψ is the tail
-unfoldable pub partsIn : ℕ → List ℕ → List ℕ → List ℕ → Parts
-partsIn budget rates kinds vs =
-    cond (fits (map coding kinds) vs) (cond (ltb budget (codesLong kinds vs)) (noParts pastBudget) (partsWith budget rates (codesLong kinds vs)))
-    (noParts wideCode)
+abbrev pub partsBy : ℕ → ℕ → List ℕ → ℕ → Parts
+partsBy reply budget rates n = cond (eqb reply 0) (partsWith budget rates n) (noParts reply)
 
--- as the FlagC choice, 8, 10, 8, 9, 12; then 7. Noise and tail are not looked at
+unfoldable pub partsIn : ℕ → List ℕ → List ℕ → List ℕ → Parts
+partsIn budget rates kinds vs = partsBy (first (codeCauses budget kinds vs)) budget rates (codesLong kinds vs)
+
 unfoldable pub layoutOf : Record → List ℕ → Parts
-layoutOf r cs =
-    cond (eqb (startReply r (length cs)) 0) (partsIn (budgetFor r) (ratesFor r) (kindsFor r) (take 800 cs)) (noParts (startReply r (length cs)))
+layoutOf r cs = partsBy (first (layoutCauses r cs)) (budgetFor r) (ratesFor r) (codesLong (kindsFor r) (take 800 cs))

@@ -3,9 +3,10 @@ ghost use mathlib.Core.Path.{_≡_};
 ghost use mathlib.Core.List.{map};
 ghost use Prim.Native.Nat.{_+_, _-_, _*_, _≤_, _<_};
 ghost use lib.ListN.{length};
+ghost use Rattle.ground.specs.Refusals.{first};
 ghost use Rattle.words.specs.Tables.{coding};
 ghost use Rattle.layout.specs.Fits.{fits};
-ghost use Rattle.layout.specs.Parts.{flagBits, planOf, startReply, noParts, partsIn, layoutOf};
+ghost use Rattle.layout.specs.Parts.{flagBits, planOf, startCauses, noParts, partsIn, layoutOf};
 ghost use Rattle.frame.specs.Answers.{flagsOf};
 use frame::Record;
 use ground::numbers::minus;
@@ -52,7 +53,7 @@ pub fn all_fit(kinds: &[u8], numbers: &[u16]) -> bool
 
 // 8 for the mode, 10 for under 800 numbers, and what the norms say: 8, 9 or 0.
 pub fn start_reply(r: Record, codes: usize) -> u8
-    ensures { λ x. ⌜ x ≡ startReply r codes ⌝ }
+    ensures { λ x. ⌜ x ≡ first (startCauses r codes) ⌝ }
 {
     let mode = r.mode;
     if 19 < mode {

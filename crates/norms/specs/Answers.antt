@@ -1,11 +1,12 @@
 -- What the calls on norms answer.
 -- Assumes nothing.
-use mathlib.Core.Bool.{Bool, false, cond, _&&_}
+use mathlib.Core.Bool.{Bool, false, cond, not}
 use mathlib.Core.List.{List, [], _∷_, map}
 use Prim.Native.Nat.{ℕ, _+_, _-_}
-use lib.Dec.{leb, ltb, eqb}
+use lib.Dec.{ltb, eqb}
 use lib.ListN.{length, getD, drop, replicate}
 use Rattle.ground.specs.Indices.{inRange}
+use Rattle.ground.specs.Refusals.{Cause, _gives_, first}
 use Rattle.ground.specs.Replies.{done, outOfRange, farApart}
 use Rattle.bits.specs.Codings.{Answer, got, no, replyOf}
 use Rattle.bits.specs.Codecs.{writeAll}
@@ -22,9 +23,15 @@ partOf at left (got norms r) = record { reply = done; next = at + (left - length
 partOf at left (no x) = record { reply = replyOf x; next = 0; norms = replicate 44 0 }
 
 -- 8: an index over 39 or a first one over 31; 9: a difference outside −15 to 16
-unfoldable pub normReply : Bool → List ℕ → ℕ
-normReply transient norms =
-    cond (inRange norms 44 && leb (getD norms 0 0) 31) (cond (stepsClose (sent transient norms)) done farApart) outOfRange
+unfoldable pub normCauses : Bool → List ℕ → List Cause
+normCauses transient norms =
+    not (inRange norms 44) gives outOfRange
+    ∷ ltb 31 (getD norms 0 0) gives outOfRange
+    ∷ not (stepsClose (sent transient norms)) gives farApart
+    ∷ []
+
+abbrev pub normReply : Bool → List ℕ → ℕ
+normReply transient norms = first (normCauses transient norms)
 
 -- the bits of the 43 words of Table 16, without the first index
 unfoldable pub wordTotal : Bool → List ℕ → ℕ

@@ -9,6 +9,7 @@ use Prim.Native.Nat.{ℕ, _<_}
 use lib.Dec.{eqb}
 use lib.IntN.{ℤ, pos}
 use lib.ListN.{replicate}
+use Rattle.ground.specs.Refusals.{OneOf}
 use Rattle.ground.specs.Replies.{done, noData}
 use Rattle.words.specs.Answers.{wordAt, numberOf}
 use Rattle.words.specs.declared.Word.{Word}
@@ -16,7 +17,6 @@ use Rattle.runs.specs.Runs.{passedUp, runReply}
 use Rattle.frame.specs.Answers.{noRecord, stoppedAt}
 use Rattle.frame.specs.declared.Record.{Record}
 use Rattle.block_writer.specs.declared.Records.{Records}
-use Rattle.promises.specs.OneOf.{OneOf}
 use Rattle.promises.specs.Calls as call
 
 -- ---- "… gives a numbered answer": the numbers of 01's table that each call can answer, and no other

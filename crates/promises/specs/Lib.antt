@@ -1,4 +1,3 @@
-pub mod OneOf
 pub mod Calls
 pub mod Contracts
 pub mod Demand1

@@ -1,21 +1,22 @@
 -- What writing a record answers (01, Numbered replies): 8 for the mode, 10, the other causes of 8, 9, 12, 7, 13; and the bytes of the frame.
 -- Assumes nothing.
 use mathlib.Core.Path.{_≡_}
-use mathlib.Core.Bool.{true, cond}
-use mathlib.Core.List.{List, _∷_, _++_}
+use mathlib.Core.Bool.{true, cond, not}
+use mathlib.Core.List.{List, [], _∷_, _++_}
 use Prim.Native.Nat.{ℕ, _+_, _-_, _≤_, _<_}
 use lib.Dec.{ltb, eqb}
 use lib.ListN.{length, take, drop}
+use Rattle.ground.specs.Refusals.{Cause, _gives_, first}
 use Rattle.ground.specs.Replies.{done, outOfRange, shortRoom, wrongTail}
 use Rattle.bits.specs.Bits.{view, bytesOf}
 use Rattle.prefix.specs.Sizes.{modeBytes}
 use Rattle.prefix.specs.Prefix.{byteWith}
+use Rattle.norms.specs.Answers.{normCauses}
 use Rattle.frame.specs.Layout.{Frame, frame}
 use Rattle.frame.specs.declared.Record.{Record}
 use Rattle.writer.specs.Tests.{quietOf}
 use Rattle.tails.specs.Tails.{clear}
-use Rattle.layout.specs.Parts.{flagBits, total, firstOf, layoutOf}
-use Rattle.layout.specs.declared.Parts.{Parts}
+use Rattle.layout.specs.Parts.{flagBits, total, budgetFor, kindsFor, codesLong, modeCause, numbersCause, codeCauses}
 use Rattle.writer.specs.declared.Writing.{Writing}
 
 -- ---- the frame that a record means: its flags, norms, the first 800 codes, noise, and as many bits of the tail as it counts
@@ -27,28 +28,35 @@ frameOf r cs ts = (flagBits r, (r .norms, (take 800 cs, (r .noise, view ts 0 (r 
 unfoldable pub bytesFor : Record → List ℕ → List ℕ → List ℕ
 bytesFor r cs ts = byteWith 0 (r .mode + 8) 0 ∷ bytesOf (modeBytes (r .mode)) (frame (total r) .write (frameOf r cs ts))
 
--- ---- the replies
+-- ---- the causes, as 01 lists them
 
 -- 8 for the mode, 10 for the three rooms, 8 for the noise
-unfoldable pub roomReply : Record → ℕ → ℕ → ℕ → ℕ
-roomReply r codes tail room =
-    cond (ltb 19 (r .mode)) outOfRange
-    (cond (ltb codes 800) shortRoom
-    (cond (ltb tail 320) shortRoom
-    (cond (ltb room (modeBytes (r .mode) + 1)) shortRoom
-    (cond (quietOf (r .transient) (r .noise)) done outOfRange))))
+unfoldable pub roomCauses : Record → ℕ → ℕ → ℕ → List Cause
+roomCauses r codes tail room =
+    modeCause r
+    ∷ numbersCause codes
+    ∷ ltb tail 320 gives shortRoom
+    ∷ ltb room (modeBytes (r .mode) + 1) gives shortRoom
+    ∷ not (quietOf (r .transient) (r .noise)) gives outOfRange
+    ∷ []
 
 -- 13: tail count or padding wrong
-unfoldable pub tailReply : List ℕ → ℕ → ℕ → ℕ
-tailReply ts left count = cond (eqb count left) (cond (clear (view ts count (2560 - count))) done wrongTail) wrongTail
+unfoldable pub tailCauses : List ℕ → ℕ → ℕ → List Cause
+tailCauses ts left count =
+    not (eqb count left) gives wrongTail
+    ∷ not (clear (view ts count (2560 - count))) gives wrongTail
+    ∷ []
 
--- what the layout says, then 13
-abbrev pub lateReply : Parts → List ℕ → ℕ → ℕ
-lateReply p ts count = firstOf (p .reply) (tailReply ts (p .«tail_bits») count)
+-- behind the rooms and the noise the norms' 8 and 9, then 12, 7, 13
+unfoldable pub writeCauses : Record → List ℕ → List ℕ → ℕ → List Cause
+writeCauses r cs ts room =
+    roomCauses r (length cs) (length ts) room
+    ++ normCauses (r .transient) (r .norms)
+    ++ codeCauses (budgetFor r) (kindsFor r) (take 800 cs)
+    ++ tailCauses ts (budgetFor r - codesLong (kindsFor r) (take 800 cs)) (r .«tail_bits»)
 
--- the layout's 8 for an index, 9, 12 and 7 stand behind the rooms and the noise
-unfoldable pub writeReply : Record → List ℕ → List ℕ → ℕ → ℕ
-writeReply r cs ts room = firstOf (roomReply r (length cs) (length ts) room) (lateReply (layoutOf r cs) ts (r .«tail_bits»))
+abbrev pub writeReply : Record → List ℕ → List ℕ → ℕ → ℕ
+writeReply r cs ts room = first (writeCauses r cs ts room)
 
 -- ---- the answer and the output
 

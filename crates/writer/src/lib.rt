@@ -1,12 +1,14 @@
 // The writer of stored frames (01, Stored frame; 7.6, 7.8): rooms, noise and tail tried, and the frame laid into a lent output.
 ghost use mathlib.Core.Path.{_≡_};
+ghost use mathlib.Core.List.{_∷_};
 ghost use Prim.Native.Nat.{_+_, _*_, _≤_, _<_};
 ghost use lib.ListN.{length};
+ghost use Rattle.ground.specs.Refusals.{said, first};
 ghost use Rattle.bits.specs.Bits.{laid, word, num};
 ghost use Rattle.writer.specs.Tests.{quietOf};
 ghost use Rattle.writer.specs.Empty.{emptyReply, emptyAfter};
 ghost use Rattle.layout.specs.Parts.{flagBits, kindsFor};
-ghost use Rattle.writer.specs.Writes.{roomReply, lateReply, writeReply, writingOf, outAfter};
+ghost use Rattle.writer.specs.Writes.{roomCauses, tailCauses, writeReply, writingOf, outAfter};
 ghost use Rattle.writer.specs.Bodies.{bodyBits};
 use frame::Record;
 use ground::numbers::wide8;
@@ -61,7 +63,7 @@ fn refusal(reply: u8) -> Writing
 
 // 8 for the mode, 10 for the three rooms, 8 for the noise, else 0.
 fn room_reply(r: Record, codes: usize, tail: usize, room: usize) -> u8
-    ensures { λ x. ⌜ x ≡ roomReply r codes tail room ⌝ }
+    ensures { λ x. ⌜ x ≡ first (roomCauses r codes tail room) ⌝ }
 {
     if 19 < r.mode {
         return OUT_OF_RANGE;
@@ -83,7 +85,7 @@ fn room_reply(r: Record, codes: usize, tail: usize, room: usize) -> u8
 
 // What the layout says, then 13 for the tail, else 0.
 fn late_reply(parts: Parts, tail: &[u8], count: u16) -> u8
-    ensures { λ r. ⌜ r ≡ lateReply parts (now (tail .entry)) count ⌝ }
+    ensures { λ r. ⌜ r ≡ first (said (parts .reply) ∷ tailCauses (now (tail .entry)) (parts .«tail_bits») count) ⌝ }
 {
     let reply = parts.reply;
     if reply != DONE {

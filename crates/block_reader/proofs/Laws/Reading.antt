@@ -1,19 +1,19 @@
 -- The reply of a block by its tests, the turns of reading it, and its bytes: a sound block ends at the place behind its frames.
 -- Assumes nothing.
 use mathlib.Core.Path.{_≡_, refl, sym, ap, ap₂, _∙_, subst}
-use mathlib.Core.List.{List, _++_}
+use mathlib.Core.List.{List, [], _∷_, _++_}
 use Prim.Native.Nat.{ℕ, _+_, _*_, _-_, _≤_, _<_}
 use native.Mathlib.Omega.{arith}
-use lib.Dec.{eqb}
 use lib.ListN.{take-append-drop, length, drop, take, set, replicate}
 use lib.Seq.{length-take-le}
-use borrow.Author.Tests.{eq-eqb, ne-eqb, eqb-true, eqb-false}
-use Rattle.ground.specs.Cases.{by-bool}
+use borrow.Author.Tests.{ne-eqb}
+use Rattle.ground.specs.Refusals.{said, first}
+use Rattle.ground.proofs.Laws.Refusals.{front-first, back-first, both-first, said-first}
 use Rattle.ground.specs.Fills.{table}
 use Rattle.ground.specs.Runs.{part}
 use Rattle.ground.proofs.Laws.Runs.{backed, length-part, Fronted, fronted-none, fronted-more, drop-same, Parted, parted-none, parted-rest, parted-more}
 use Rattle.frame.specs.Answers as frame
-use Rattle.frame.specs.Answers.{sound, readAnswer, readingOf, stoppedAt}
+use Rattle.frame.specs.Answers.{readAnswer, readingOf, stoppedAt}
 use Rattle.frame.specs.declared.Reading.{Reading}
 use Rattle.recording.specs.Walk.{passes, storedAt}
 use Rattle.recording.proofs.Laws.Reads.{lent}
@@ -23,29 +23,35 @@ use Rattle.recording.proofs.Laws.Blocks.{block-told}
 use Rattle.frames.specs.Places.{sizeAt, placeOf}
 use Rattle.frames.proofs.Laws.Frames.{placed}
 use Rattle.frames.proofs.Laws.Places.{place-none, place-more, place-inside}
-use Rattle.frames.specs.Rooms.{roomReply}
-use Rattle.block_reader.specs.Reading.{blockReply, channelAt, noBlock, blockOf, codesOf, tailsOf, blockAnswer, codesAfter, tailsAfter}
+use Rattle.frames.specs.Rooms.{roomCauses}
+use Rattle.block_reader.specs.Reading.{blockCauses, blockReply, channelAt, noBlock, blockOf, codesOf, tailsOf, blockAnswer, codesAfter, tailsAfter}
 use Rattle.block_reader.specs.declared.Block.{Block}
 use Rattle.frames.proofs.Laws.Rooms.{Roomy, rooms-told}
 
 -- ---- the reply
 
-module _ (s : List ℕ) (n codes tails x : ℕ) (e : x ≡ roomReply n codes tails) where
-  pub reply-early : (x ≡ 0 → ⊥) → x ≡ blockReply s n codes tails
-  unfolding blockReply
-  reply-early h = e ∙ rw (ne-eqb (roomReply n codes tails) 0 (λ z. h (e ∙ z))) refl
+module _ (s : List ℕ) (n codes tails : ℕ) where
+  pub reply-early : {x : ℕ} → x ≡ first (roomCauses n codes tails) → (x ≡ 0 → ⊥) → x ≡ blockReply s n codes tails
+  unfolding blockCauses
+  reply-early e h = front-first _ _ e h
 
-  pub reply-frames : x ≡ 0 → (p : Passing) → p ≡ passingOf (blockStep n s) → p .reply ≡ blockReply s n codes tails
-  unfolding blockReply
-  reply-frames z p q = ap (λ (y : Passing). y .reply) q ∙ rw (eq-eqb (roomReply n codes tails) 0 (sym e ∙ z)) refl
+  -- behind the rooms the frames decide
+  pub reply-frames : {x : ℕ} → x ≡ first (roomCauses n codes tails) → x ≡ 0 → (p : Passing) → p ≡ passingOf (blockStep n s)
+      → p .reply ≡ blockReply s n codes tails
+  unfolding blockCauses roomCauses
+  reply-frames e z p q =
+      back-first (roomCauses n codes tails) _ tt (sym e ∙ z) (ap (λ (y : Passing). y .reply) q ∙ sym (said-first (passingOf (blockStep n s) .reply)))
+
+  -- what a reply of 0 tells
+  pub reply-told : blockReply s n codes tails ≡ 0 → (first (roomCauses n codes tails) ≡ 0) × (passingOf (blockStep n s) .reply ≡ 0)
+  unfolding blockCauses roomCauses
+  reply-told z =
+      let b = both-first (roomCauses n codes tails) (said (passingOf (blockStep n s) .reply) ∷ []) tt z in
+      (b .0, sym (said-first (passingOf (blockStep n s) .reply)) ∙ b .1)
 
 -- a block that is read has its rooms
 pub reply-rooms : (s : List ℕ) {n codes tails : ℕ} → blockReply s n codes tails ≡ 0 → Roomy n codes tails
-reply-rooms s {n} {codes} {tails} z =
-    let x = roomReply n codes tails in
-    by-bool (eqb x 0)
-    (λ t. rooms-told (eqb-true x 0 t))
-    (λ t. let h = eqb-false x 0 t in absurd (h (reply-early s n codes tails x refl h ∙ z)))
+reply-rooms s {n} {codes} {tails} z = rooms-told n codes tails (reply-told s n codes tails z .0)
 
 -- ---- the turns: the frames of the channels below c are read, each into its own part
 

@@ -10,9 +10,11 @@ use native.Mathlib.Omega.{arith}
 use lib.Dec.{eqb, ltb}
 use lib.ListN.{length, getD, take, drop, replicate, length-append, length-drop, length-map, take-append-drop, List·getD-append, List·getD-map}
 use lib.Seq.{take-at, drop-at, drop-length, take-all, length-take-le}
-use borrow.Author.Tests.{eq-eqb, eqb-true, eqb-false, le-ltb, ltb-true, ltb-false}
+use borrow.Author.Tests.{le-ltb, ltb-true, ltb-false}
 use Rattle.ground.specs.Cases.{by-bool}
 use Rattle.ground.specs.Replies.{done, noData}
+use Rattle.ground.specs.Refusals.{first}
+use Rattle.ground.proofs.Laws.Refusals.{row-fails, no-row, neither-first, runs-none}
 use Rattle.ground.specs.Fills.{table, length-from, getD-table}
 use Rattle.ground.proofs.Laws.Fills.{table-same}
 use Rattle.ground.specs.Runs.{runs, part}
@@ -47,7 +49,7 @@ use Rattle.recording.specs.Blocks.{blockStep, passingOf}
 use Rattle.recording.proofs.Laws.Blocks.{block-front, block-told, block-stops}
 use Rattle.frames.specs.Places.{sizeAt, placeOf, frameAt, zeroed}
 use Rattle.frames.proofs.Laws.Frames.{placed, frame-stored, frame-in, frames-made, frames-back}
-use Rattle.layout.specs.Parts.{firstOf, total}
+use Rattle.layout.specs.Parts.{total}
 use Rattle.writer.specs.Empty.{emptyAfter}
 use Rattle.writer.proofs.Laws.Empty.{empty-read}
 use Rattle.writer.specs.Writes as writer
@@ -56,16 +58,16 @@ use Rattle.writer.proofs.Laws.Bodies.{passed}
 use Rattle.writer.proofs.Laws.WriteBack as writeback
 use Rattle.writer.proofs.Laws.WriteBack.{answer-sound}
 use Rattle.writer.proofs.Laws.ReadBack as readback
-use Rattle.frames.specs.Rooms.{roomReply}
 use Rattle.block_reader.specs.Reading as reading
 use Rattle.block_reader.specs.Reading.{channelAt, blockOf, codesOf, tailsOf}
 use Rattle.block_writer.specs.ReadBack.{readAgain, readingBack, codesBack, tailsBack}
 use Rattle.block_writer.specs.Writing as writing
-use Rattle.block_writer.specs.Writing.{pastRecords, recordAt, emptyAt, frameReply, frameOf, replyAt, bytesAt, framesReply, blockBytes}
+use Rattle.block_writer.specs.Writing.{pastRecords, recordAt, emptyAt, frameCauses, frameOf, causesAt, bytesAt, blockBytes}
 use Rattle.block_reader.specs.declared.Block.{Block}
 use Rattle.block_writer.specs.declared.Records.{Records}
-use Rattle.frames.proofs.Laws.Rooms.{Roomy, rooms-enough, rooms-told}
-use Rattle.block_reader.proofs.Laws.Reading.{reply-rooms, reply-frames, block-bytes}
+use Rattle.frames.proofs.Laws.Rooms.{Roomy, rooms-enough}
+use Rattle.block_reader.proofs.Laws.Reading.{reply-rooms, reply-frames, reply-told, block-bytes}
+use Rattle.block_writer.proofs.Laws.Writing as written
 
 -- ---- runs of one length are the parts of their list
 
@@ -136,7 +138,7 @@ module _ (f : List ℕ) (a : Stored f) where
 
 -- what is written has no cause of refusal, and is the frame with R zero
 abbrev Returns : List ℕ → Record → Bool → List ℕ → List ℕ → Type 0
-Returns f r w cs ts = (frameReply r w cs ts ≡ 0) × (frameOf r w cs ts ≡ zeroed f)
+Returns f r w cs ts = (first (frameCauses r w cs ts) ≡ 0) × (frameOf r w cs ts ≡ zeroed f)
 
 abbrev Returned : List ℕ → List ℕ → List ℕ → Outcome → Type 0
 Returned f cs ts o = Returns f (readingOf o .«record») (eqb (readingOf o .reply) noData) (frame.codesAfter cs o) (frame.tailAfter ts o)
@@ -179,7 +181,7 @@ full-zeroed (b ∷ f) n l = ap (λ (x : List ℕ). zeroR b ∷ x) (take-all n f 
 module _ (f cs ts : List ℕ) (h : Bytes f) (lc : length cs ≡ 800) (lt : length ts ≡ 320) where
   frame-returned : Stored f → Returned f cs ts (storedAt f)
   unfolding storedAt
-  frame-returned (bare e l) = subst (Returned f cs ts) (sym e) (refl, bare-zeroed f h (bare-says f e) l)
+  frame-returned (bare e l) = subst (Returned f cs ts) (sym e) (sym no-row, bare-zeroed f h (bare-says f e) l)
   frame-returned (full m x e l) =
       let q : readAnswer f (length cs) (length ts) ≡ sound m x = ap₂ (readAnswer f) lc lt ∙ e in
       let S = answer-sound f 800 320 m x e .2 in
@@ -218,7 +220,7 @@ passed-step : (s : List ℕ) (n codes tails : ℕ) → reading.blockReply s n co
 passed-step s n codes tails z = go (blockStep n s) refl
   where
     told : passingOf (blockStep n s) .reply ≡ 0
-    told = reply-frames s n codes tails _ refl (rooms-enough (reply-rooms s z)) (passingOf (blockStep n s)) refl ∙ z
+    told = reply-told s n codes tails z .1
 
     go : (o : Step) → blockStep n s ≡ o → blockStep n s ≡ passes (placeOf s n)
     go (stops x) e = absurd (let q : x ≡ 0 = sym (ap (λ (y : Step). passingOf y .reply) e) ∙ told in omega (arith, q, block-stops n s x e .0))
@@ -242,14 +244,6 @@ module _ (s : List ℕ) (n codes tails : ℕ) (z : reading.blockReply s n codes 
   -- and one behind the other they are the block
   pub block-whole : runs n (frameAt s) ≡ take (placeOf s n) s
   block-whole = runs-same (frameAt s) (frameAt (take (placeOf s n) s)) n frame-front ∙ frames-back (told .0)
-
-first-none : {x y : ℕ} → x ≡ 0 → y ≡ 0 → firstOf x y ≡ 0
-first-none {x} {y} a b = rw (eq-eqb x 0 a) b
-
-frames-none : (r : Records) (cs ts : List ℕ) (n : ℕ) → ((c : ℕ) → c < n → replyAt r cs ts c ≡ 0) → framesReply r cs ts n ≡ 0
-unfolding framesReply
-frames-none r cs ts zero h = refl
-frames-none r cs ts (suc n) h = first-none (frames-none r cs ts n (λ c b. h c (omega arith))) (h n (omega arith))
 
 zeroed-long : (f : List ℕ) → length (zeroed f) ≡ length f
 zeroed-long [] = refl
@@ -320,7 +314,7 @@ module _ (s : List ℕ) (n : ℕ) (codes tails : List ℕ) (b : Bytes s) (z : re
 
   -- Demand 2: a block that was read and is written returns
   pub write-back : WrittenBack s n codes tails
-  unfolding writing.blockReply codes-at tail-at
+  unfolding writing.blockCauses codes-at tail-at
   write-back =
       let r = recordsOf s n in
       let cs = codesOf s n codes in
@@ -328,14 +322,16 @@ module _ (s : List ℕ) (n : ℕ) (codes tails : List ℕ) (b : Bytes s) (z : re
       record {
         reply =
             λ room h.
-            first-none
+            neither-first _ _
+            (neither-first _ _
             (rooms-enough (record {
               some = rooms .some;
               few = rooms .few;
               numbers = omega (arith, rooms .numbers, parts-long 800 codes-at n codes codes-800 (rooms .numbers));
               bytes = omega (arith, rooms .bytes, parts-long 320 tail-at n tails tail-320 (rooms .bytes));
             }))
-            (first-none (frames-none r cs ts n (λ c b. frame-back c b .0)) (rw (le-ltb room (length (blockBytes r n cs ts)) (omega (arith, long-back))) refl));
+            (runs-none (causesAt r cs ts) n (λ c b. frame-back c b .0)))
+            (sym (row-fails _ _ (le-ltb room (length (blockBytes r n cs ts)) (omega (arith, long-back))) no-row));
         bytes = bytes-back;
         long = long-back;
       }
@@ -379,7 +375,7 @@ module _ (r : Record) (cs ts codes tail : List ℕ) (lc : length cs ≡ 800) (lt
         bytes = ap (frame.tailAfter tail) q ∙ w .2 ∙ replaced 320 ts tail lt mt;
       }
 
-  frame-reads : (w : Bool) → frameReply r w cs ts ≡ 0 → (w ≡ false → (length (r .norms) ≡ 44) × Bytes ts) → Reads r w cs ts codes tail
+  frame-reads : (w : Bool) → first (frameCauses r w cs ts) ≡ 0 → (w ≡ false → (length (r .norms) ≡ 44) × Bytes ts) → Reads r w cs ts codes tail
   frame-reads true z h =
       record {
         stored = bare empty-stored refl;
@@ -399,27 +395,6 @@ pub record ReadBack (r : Records) (n : ℕ) (cs ts out codes tails : List ℕ) :
   pub numbers : codesOf (writing.outAfter 0 r n cs ts out) n codes ≡ codesBack r n cs codes
   pub bytes : tailsOf (writing.outAfter 0 r n cs ts out) n tails ≡ tailsBack r n ts tails
 
-first-told : (x y : ℕ) → firstOf x y ≡ 0 → (x ≡ 0) × (y ≡ 0)
-first-told x y e = by-bool (eqb x 0) (λ t. (eqb-true x 0 t, rw t at e)) (λ t. absurd (eqb-false x 0 t (rw t at e)))
-
-frames-told : (r : Records) (cs ts : List ℕ) (n : ℕ) → framesReply r cs ts n ≡ 0 → (c : ℕ) → c < n → replyAt r cs ts c ≡ 0
-unfolding framesReply
-frames-told r cs ts zero z c h = absurd (omega arith)
-frames-told r cs ts (suc n) z c h =
-    let q = first-told (framesReply r cs ts n) (replyAt r cs ts n) z in
-    by-bool (eqb c n)
-    (λ t. subst (λ (k : ℕ). replyAt r cs ts k ≡ 0) (sym (eqb-true c n t)) (q .1))
-    (λ t. frames-told r cs ts n (q .0) c (omega (arith, eqb-false c n t)))
-
--- a block that is written has its rooms, and no channel has a cause
-written-told : (r : Records) (n : ℕ) (cs ts : List ℕ) (room : ℕ) → writing.blockReply r n cs ts room ≡ 0
-    → Roomy n (length cs) (length ts) × ((c : ℕ) → c < n → replyAt r cs ts c ≡ 0)
-unfolding writing.blockReply
-written-told r n cs ts room z =
-    let p = first-told (roomReply n (length cs) (length ts)) _ z in
-    let q = first-told (framesReply r cs ts n) _ (p .1) in
-    (rooms-told (p .0), frames-told r cs ts n (q .0))
-
 module _ (r : Records) (n : ℕ) (cs ts out codes tails : List ℕ) (z : writing.blockReply r n cs ts (length out) ≡ 0)
     (k : (c : ℕ) → c < n → emptyAt r c ≡ false → (length (recordAt r c .norms) ≡ 44) × Bytes (part 320 ts c))
     (hc : n * 800 ≤ length codes) (ht : n * 320 ≤ length tails) where
@@ -429,13 +404,13 @@ module _ (r : Records) (n : ℕ) (cs ts out codes tails : List ℕ) (z : writing
 
   reads : (c : ℕ) → c < n → Reads (recordAt r c) (emptyAt r c) (part 800 cs c) (part 320 ts c) (part 800 codes c) (part 320 tails c)
   reads c h =
-      let t = written-told r n cs ts (length out) z in
+      let t = written.block-told r n cs ts (length out) z in
       frame-reads (recordAt r c) (part 800 cs c) (part 320 ts c) (part 800 codes c) (part 320 tails c)
-      (length-part 800 cs c (omega (arith, t .0 .numbers)))
-      (length-part 320 ts c (omega (arith, t .0 .bytes)))
+      (length-part 800 cs c (omega (arith, t .rooms .numbers)))
+      (length-part 320 ts c (omega (arith, t .rooms .bytes)))
       (length-part 800 codes c (omega arith))
       (length-part 320 tails c (omega arith))
-      (emptyAt r c) (t .1 c h) (k c h)
+      (emptyAt r c) (t .frames c h) (k c h)
 
   laid-frames : Frames n (blockBytes r n cs ts)
   laid-frames = frames-made (bytesAt r cs ts) n (λ c h. reads c h .stored)
@@ -451,11 +426,11 @@ module _ (r : Records) (n : ℕ) (cs ts out codes tails : List ℕ) (z : writing
   unfolding s
   read-back =
       let rest = drop (length (blockBytes r n cs ts)) out in
-      let R = written-told r n cs ts (length out) z .0 in
+      let R = written.block-told r n cs ts (length out) z .rooms in
       let Q : Roomy n (length codes) (length tails) = record { some = R .some; few = R .few; numbers = hc; bytes = ht } in
       record {
         reply =
-            sym (reply-frames s n (length codes) (length tails) _ refl (rooms-enough Q) (passingOf (blockStep n s)) refl)
+            sym (reply-frames s n (length codes) (length tails) refl (rooms-enough Q) (passingOf (blockStep n s)) refl)
             ∙ ap (λ (x : Step). passingOf x .reply) (block-front rest laid-frames);
         block =
             ap₂ (λ (i : ℕ) (l : List Reading). let b : Block = record { reply = done; next = i; frames = l ++ replicate (8 - n) (stoppedAt 0 0) } in b)

@@ -3,15 +3,18 @@
 use mathlib.Core.Path.{_≡_, refl, sym, ap, ap₂, _∙_}
 use mathlib.Core.Bool.{Bool, true, false}
 use mathlib.Core.List.{List, [], _∷_, _++_, append-assoc, append-nil}
-use Prim.Native.Nat.{ℕ, zero, suc, _+_, _-_, _*_, _≤_, _<_}
-use native.Mathlib.Decide.{ℕ-discrete}
+use Prim.Native.Nat.{ℕ, suc, _+_, _-_, _*_, _≤_, _<_}
 use native.Mathlib.Numerals.{add-one}
 use native.Mathlib.Omega.{arith}
-use lib.Dec.{ltb}
+use lib.Dec.{T, ltb}
 use lib.ListN.{length, drop, take, length-append, length-drop}
 use lib.Seq.{take-at, drop-at, drop-drop, take-all, drop-length}
-use borrow.Author.Tests.{eq-eqb, ne-eqb, lt-ltb, le-ltb, ltb-true, ltb-false}
+use borrow.Author.Tests.{eq-eqb, ne-eqb, ltb-true, ltb-false}
 use Rattle.ground.specs.Cases.{by-bool}
+use Rattle.ground.proofs.Laws.Cases.{T-and}
+use Rattle.ground.specs.Refusals.{_gives_, first, notDone}
+use Rattle.ground.proofs.Laws.Refusals.{numbers, by-rows, no-row, first-none, front-first, back-first, neither-first, both-first, numbers-append}
+use Rattle.ground.proofs.Laws.Refusals.{runs-numbers, runs-told}
 use Rattle.ground.specs.Replies.{done, shortRoom}
 use Rattle.ground.specs.Runs.{runs, part}
 use Rattle.ground.proofs.Laws.Runs.{runs-more, length-runs, backed}
@@ -25,13 +28,13 @@ use Rattle.frame.specs.declared.Record.{Record}
 use Rattle.layout.specs.Parts.{total}
 use Rattle.writer.specs.Empty.{emptyReply, emptyAfter}
 use Rattle.writer.specs.Writes as writer
-use Rattle.writer.specs.Writes.{writeReply, writingOf, bytesFor}
-use Rattle.writer.proofs.Laws.Writes.{reply-roomy}
+use Rattle.writer.specs.Writes.{writeCauses, writeReply, writingOf, bytesFor}
+use Rattle.writer.proofs.Laws.Writes.{write-numbered, reply-roomy}
 use Rattle.writer.specs.declared.Writing.{Writing}
-use Rattle.block_writer.specs.Writing.{recordAt, emptyAt, frameReply, frameOf, replyAt, bytesAt, framesReply, blockBytes, blockReply, blockAnswer}
-use Rattle.block_writer.specs.Writing.{outAfter}
+use Rattle.block_writer.specs.Writing.{recordAt, emptyAt, frameCauses, frameOf, causesAt, bytesAt, blockBytes, blockCauses, blockReply}
+use Rattle.block_writer.specs.Writing.{blockAnswer, outAfter}
 use Rattle.block_writer.specs.Inner.{frameBytes}
-use Rattle.frames.specs.Rooms.{roomReply}
+use Rattle.frames.specs.Rooms.{roomCauses}
 use Rattle.block_writer.specs.declared.Records.{Records}
 use Rattle.frames.proofs.Laws.Rooms.{Roomy, rooms-told}
 
@@ -50,11 +53,14 @@ length-frame r false cs ts = length-full r cs ts
 
 -- a frame that is not an empty one
 module _ (r : Record) {e : Bool} (f : e ≡ false) where
-  pub full-reply : (cs ts : List ℕ) {x : ℕ} → x ≡ writeReply r cs ts 321 → x ≡ frameReply r e cs ts
+  pub full-reply : (cs ts : List ℕ) {x : ℕ} → x ≡ writeReply r cs ts 321 → x ≡ first (frameCauses r e cs ts)
   full-reply cs ts q = rw f q
 
   pub full-bytes : {n : ℕ} → n ≡ modeBytes (r .mode) → (n + 1 ≡ frameBytes r e) × (n + 1 ≤ 321)
   full-bytes q = (rw f (ap (λ (k : ℕ). k + 1) q), omega (arith, q, mode-most (r .mode)))
+
+pub bare-reply : (r : Record) {e : Bool} (cs ts : List ℕ) → e ≡ true → done ≡ first (frameCauses r e cs ts)
+bare-reply r cs ts f = rw f no-row
 
 -- the room of the longest frame is as good as any that holds this one
 module _ (r : Record) (cs ts out : List ℕ) (w : Writing) (ys : List ℕ) where
@@ -65,7 +71,7 @@ module _ (r : Record) (cs ts out : List ℕ) (w : Writing) (ys : List ℕ) where
       let q : writeReply r cs ts (length out) ≡ 0 = sym (reply-roomy r cs ts (length out) (omega arith)) ∙ z in
       (ap (λ (x : Writing). x .next) ew ∙ ap (λ (x : ℕ). writingOf x (r .mode) .next) q, ey ∙ ap (λ (x : ℕ). writer.outAfter x r cs ts out) q)
 
-  pub full-put : (e : Bool) → e ≡ false → frameReply r e cs ts ≡ 0 → frameBytes r e ≤ length out
+  pub full-put : (e : Bool) → e ≡ false → first (frameCauses r e cs ts) ≡ 0 → frameBytes r e ≤ length out
       → w ≡ writingOf (writeReply r cs ts (length out)) (r .mode) → ys ≡ writer.outAfter (writeReply r cs ts (length out)) r cs ts out
       → (w .next ≡ frameBytes r e) × (ys ≡ frameOf r e cs ts ++ drop (frameBytes r e) out)
   full-put e f z h ew ey = rw f (put-full (rw f at z) (rw f at h) ew ey)
@@ -86,37 +92,22 @@ bare-put r cs ts out w ys e f h ew ey =
 
 -- what is lent of the numbers and bytes is the channel's part
 pub part-reply : (r : Record) (e : Bool) (cs ts : List ℕ) (c m j : ℕ) {x : ℕ} → m ≡ 800 → j ≡ 320
-    → x ≡ frameReply r e (take m (drop (c * 800) cs)) (take j (drop (c * 320) ts)) → x ≡ frameReply r e (part 800 cs c) (part 320 ts c)
-part-reply r e cs ts c m j em ej q = q ∙ ap₂ (λ (k i : ℕ). frameReply r e (take k (drop (c * 800) cs)) (take i (drop (c * 320) ts))) em ej
+    → x ≡ first (frameCauses r e (take m (drop (c * 800) cs)) (take j (drop (c * 320) ts))) → x ≡ first (frameCauses r e (part 800 cs c) (part 320 ts c))
+part-reply r e cs ts c m j em ej q = q ∙ ap₂ (λ (k i : ℕ). first (frameCauses r e (take k (drop (c * 800) cs)) (take i (drop (c * 320) ts)))) em ej
+
+-- what passes the number of each cause of a frame passes those of the block's frames
+frame-numbers : (f : ℕ → Bool) → ((r : Record) (cs ts : List ℕ) → T (numbers f (writeCauses r cs ts 321)))
+    → (r : Record) (e : Bool) (cs ts : List ℕ) → T (numbers f (frameCauses r e cs ts))
+frame-numbers f h r true cs ts = tt
+frame-numbers f h r false cs ts = h r cs ts
 
 module _ (r : Records) (cs ts : List ℕ) where
-  pub frames-none : framesReply r cs ts 0 ≡ 0
-  unfolding framesReply
-  frames-none = refl
+  frames-numbers : (f : ℕ → Bool) → ((r : Record) (cs ts : List ℕ) → T (numbers f (writeCauses r cs ts 321))) → (n : ℕ)
+      → T (numbers f (runs n (causesAt r cs ts)))
+  frames-numbers f h = runs-numbers (causesAt r cs ts) f (λ c. frame-numbers f h (recordAt r c) (emptyAt r c) (part 800 cs c) (part 320 ts c))
 
-  -- the frames in front pass: the next one decides
-  pub frames-next : (c : ℕ) → framesReply r cs ts c ≡ 0 → framesReply r cs ts (c + 1) ≡ replyAt r cs ts c
-  unfolding framesReply
-  frames-next c e = ap (framesReply r cs ts) (add-one c) ∙ rw (eq-eqb (framesReply r cs ts c) 0 e)
-
-  -- a cause stays
-  pub frames-stay : (c n : ℕ) → (framesReply r cs ts c ≡ 0 → ⊥) → c ≤ n → framesReply r cs ts n ≡ framesReply r cs ts c
-  unfolding framesReply
-  frames-stay c zero q h = let e : c ≡ 0 = omega arith in ap (framesReply r cs ts) (sym e)
-  frames-stay c (suc n) q h =
-      elim (ℕ-discrete c (suc n)) [
-        | yes p ↦ ap (framesReply r cs ts) (sym p)
-        | no p ↦ (let s = frames-stay c n q (omega (arith, p)) in rw (ne-eqb (framesReply r cs ts n) 0 (λ z. q (sym s ∙ z))) s)
-      ]
-
-  -- no cause: every frame passes
-  pub frames-told : (n : ℕ) → framesReply r cs ts n ≡ 0 → (c : ℕ) → c < n → replyAt r cs ts c ≡ 0
-  frames-told n e c h =
-      let z : framesReply r cs ts c ≡ 0 =
-      elim (ℕ-discrete (framesReply r cs ts c) 0) [ yes p ↦ p | no p ↦ sym (frames-stay c n p (omega arith)) ∙ e ] in
-      let y : framesReply r cs ts (c + 1) ≡ 0 =
-      elim (ℕ-discrete (framesReply r cs ts (c + 1)) 0) [ yes p ↦ p | no p ↦ sym (frames-stay (c + 1) n p (omega arith)) ∙ e ] in
-      sym (frames-next c z) ∙ y
+  pub numbered-at : (c : ℕ) → T (numbers notDone (causesAt r cs ts c))
+  numbered-at c = frame-numbers notDone write-numbered (recordAt r c) (emptyAt r c) (part 800 cs c) (part 320 ts c)
 
   -- ---- the bytes
 
@@ -172,44 +163,63 @@ module _ {f : ℕ → List ℕ} {l₀ l : List ℕ} {at c : ℕ} (p : Laid f l�
   pub laid-all : (n : ℕ) → c ≡ n → (at ≡ length (runs n f)) × (l ≡ runs n f ++ drop at l₀)
   laid-all n e = (p .place ∙ ap (λ (k : ℕ). length (runs k f)) e, p .same ∙ ap (λ (k : ℕ). runs k f ++ drop at l₀) e)
 
--- ---- the block's reply, by the tests
+-- ---- the block's reply
 
 module _ (r : Records) (n : ℕ) (cs ts : List ℕ) (room : ℕ) where
-  pub block-early : {x : ℕ} → x ≡ roomReply n (length cs) (length ts) → (x ≡ 0 → ⊥) → x ≡ blockReply r n cs ts room
-  unfolding blockReply
-  block-early {x} e q = rw (← e, ne-eqb x 0 q)
+  -- what passes the numbers of the rooms, of a frame and of the output passes those of the block
+  early-numbers : (f : ℕ → Bool) → T (numbers f (roomCauses n (length cs) (length ts)))
+      → ((r : Record) (cs ts : List ℕ) → T (numbers f (writeCauses r cs ts 321)))
+      → T (numbers f (roomCauses n (length cs) (length ts) ++ runs n (causesAt r cs ts)))
+  early-numbers f a h = numbers-append f (roomCauses n (length cs) (length ts)) (runs n (causesAt r cs ts)) a (frames-numbers r cs ts f h n)
 
-  module _ (z : roomReply n (length cs) (length ts) ≡ 0) where
-    pub block-late : {x : ℕ} → x ≡ framesReply r cs ts n → (x ≡ 0 → ⊥) → x ≡ blockReply r n cs ts room
-    unfolding blockReply
-    block-late {x} e q = rw (eq-eqb (roomReply n (length cs) (length ts)) 0 z, ← e, ne-eqb x 0 q)
+  early-numbered : T (numbers notDone (roomCauses n (length cs) (length ts) ++ runs n (causesAt r cs ts)))
+  unfolding roomCauses
+  early-numbered = early-numbers notDone tt write-numbered
 
-    module _ (f : framesReply r cs ts n ≡ 0) where
+  pub block-numbers : (f : ℕ → Bool) → T (numbers f (roomCauses n (length cs) (length ts)))
+      → ((r : Record) (cs ts : List ℕ) → T (numbers f (writeCauses r cs ts 321))) → T (f shortRoom) → T (numbers f (blockCauses r n cs ts room))
+  unfolding blockCauses
+  block-numbers f a h b =
+      numbers-append f (roomCauses n (length cs) (length ts) ++ runs n (causesAt r cs ts)) _ (early-numbers f a h) (T-and (f shortRoom) true b tt)
+
+  pub block-early : {x : ℕ} → x ≡ first (roomCauses n (length cs) (length ts)) → (x ≡ 0 → ⊥) → x ≡ blockReply r n cs ts room
+  unfolding blockCauses
+  block-early e q = front-first _ _ (front-first _ _ e q) q
+
+  module _ (z : first (roomCauses n (length cs) (length ts)) ≡ 0) where
+    pub block-late : {x : ℕ} → x ≡ first (runs n (causesAt r cs ts)) → (x ≡ 0 → ⊥) → x ≡ blockReply r n cs ts room
+    unfolding blockCauses roomCauses
+    block-late e q = front-first _ _ (back-first (roomCauses n (length cs) (length ts)) _ tt z e) q
+
+    module _ (f : first (runs n (causesAt r cs ts)) ≡ 0) where
+      -- the output decides
+      block-out : {x : ℕ} → x ≡ first (ltb room (length (blockBytes r n cs ts)) gives shortRoom ∷ []) → x ≡ blockReply r n cs ts room
+      unfolding blockCauses
+      block-out e = back-first _ _ early-numbered (neither-first _ _ z f) e
+
       pub block-short : room < length (blockBytes r n cs ts) → shortRoom ≡ blockReply r n cs ts room
-      unfolding blockReply
-      block-short h = rw (eq-eqb (roomReply n (length cs) (length ts)) 0 z, eq-eqb (framesReply r cs ts n) 0 f, lt-ltb room (length (blockBytes r n cs ts)) h)
+      block-short h = block-out (search by-rows)
 
       pub block-done : length (blockBytes r n cs ts) ≤ room → done ≡ blockReply r n cs ts room
-      unfolding blockReply
-      block-done h = rw (eq-eqb (roomReply n (length cs) (length ts)) 0 z, eq-eqb (framesReply r cs ts n) 0 f, le-ltb room (length (blockBytes r n cs ts)) h)
+      block-done h = block-out (search by-rows)
 
 -- what the reply 0 tells
 pub record Passing (r : Records) (n : ℕ) (cs ts : List ℕ) (room : ℕ) : Type 0 where
   pub rooms : Roomy n (length cs) (length ts)
-  pub frames : framesReply r cs ts n ≡ 0
+  pub frames : (c : ℕ) → c < n → first (causesAt r cs ts c) ≡ 0
   pub out : length (blockBytes r n cs ts) ≤ room
 
 pub block-told : (r : Records) (n : ℕ) (cs ts : List ℕ) (room : ℕ) → blockReply r n cs ts room ≡ 0 → Passing r n cs ts room
+unfolding blockCauses roomCauses
 block-told r n cs ts room e =
-    elim (ℕ-discrete (roomReply n (length cs) (length ts)) 0) [
-      | no q ↦ absurd (q (block-early r n cs ts room refl q ∙ e))
-      | yes z ↦ elim (ℕ-discrete (framesReply r cs ts n) 0) [
-        | no q ↦ absurd (q (block-late r n cs ts room z refl q ∙ e))
-        | yes f ↦ by-bool (ltb room (length (blockBytes r n cs ts)))
-            (λ t. absurd (let y = block-short r n cs ts room z f (ltb-true room (length (blockBytes r n cs ts)) t) in omega (arith, y, e)))
-            (λ t. record { rooms = rooms-told z; frames = f; out = ltb-false room (length (blockBytes r n cs ts)) t })
-      ]
-    ]
+    let p = both-first (roomCauses n (length cs) (length ts) ++ runs n (causesAt r cs ts)) _ (early-numbered r n cs ts room) e in
+    let q = both-first (roomCauses n (length cs) (length ts)) (runs n (causesAt r cs ts)) tt (p .0) in
+    let o = first-none (ltb room (length (blockBytes r n cs ts)) gives shortRoom ∷ []) tt (p .1) in
+    record {
+      rooms = rooms-told n (length cs) (length ts) (q .0);
+      frames = runs-told (causesAt r cs ts) (numbered-at r cs ts) n (q .1);
+      out = omega (arith, ltb-false);
+    }
 
 -- ---- the answer
 
@@ -232,10 +242,10 @@ module _ {r : Records} {n : ℕ} {cs ts : List ℕ} {out₀ out : List ℕ} {at 
 
   -- the next frame passes and has room
   pub frame-ready : (m j : ℕ) → m ≡ 800 → j ≡ 320
-      → (frameReply (recordAt r c) (emptyAt r c) (take m (drop (c * 800) cs)) (take j (drop (c * 320) ts)) ≡ 0)
+      → (first (frameCauses (recordAt r c) (emptyAt r c) (take m (drop (c * 800) cs)) (take j (drop (c * 320) ts))) ≡ 0)
       × (frameBytes (recordAt r c) (emptyAt r c) ≤ length (take (length out - at) (drop at out)))
   frame-ready m j em ej = (
-    part-reply (recordAt r c) (emptyAt r c) cs ts c m j em ej refl ∙ frames-told r cs ts n (q .frames) c h,
+    part-reply (recordAt r c) (emptyAt r c) cs ts c m j em ej refl ∙ q .frames c h,
     omega (arith, ap length (laid-rest p), length-drop at out₀, fits),
   )
 

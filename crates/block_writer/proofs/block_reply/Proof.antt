@@ -4,25 +4,28 @@ use denote.Ref.{now}
 use lib.ListN.{length}
 use mathlib.Core.Path.{_≡_, sym, _∙_}
 use native.Mathlib.Omega.{arith}
-use Rattle.frames.specs.Rooms.{roomReply}
-use Rattle.block_writer.specs.Writing.{framesReply}
-use Rattle.frames.proofs.Laws.Rooms.{Roomy, rooms-told}
+use Rattle.ground.specs.Refusals.{first}
+use Rattle.ground.specs.Runs.{runs}
+use Rattle.frames.specs.Rooms.{roomCauses}
+use Rattle.block_writer.specs.Writing.{causesAt}
+use Rattle.frames.proofs.Laws.Rooms.{rooms-told}
 use Rattle.block_writer.proofs.Laws.Writing.{block-long, block-early, block-late, block-short, block-done}
 use Rattle.block_writer.proofs.block_reply.Statement.{statement}
 use Rattle.block_writer.proofs.block_reply.Tie as tie
 
 -- the rooms are there
-rooms : (e : tie.Else1) → let a : tie.Start = search in roomReply (a .args .channels) (length (now (a .args .codes))) (length (now (a .args .tails))) ≡ 0
+rooms : (e : tie.Else1)
+    → let a : tie.Start = search in first (roomCauses (a .args .channels) (length (now (a .args .codes))) (length (now (a .args .tails)))) ≡ 0
 rooms e = let m : tie.After-room-reply = search in sym (m .room-reply .ensures) ∙ e .if1 .left
 
 -- every frame passes
-frames : (e : tie.Else2) → let a : tie.Start = search in framesReply (a .args .records) (now (a .args .codes)) (now (a .args .tails)) (a .args .channels) ≡ 0
+frames : (e : tie.Else2)
+    → let a : tie.Start = search in first (runs (a .args .channels) (causesAt (a .args .records) (now (a .args .codes)) (now (a .args .tails)))) ≡ 0
 frames e = let f : tie.After-frames-reply = search in sym (f .frames-reply .ensures) ∙ e .if2 .left
 
 frames-reply-requires : tie.Need-frames-reply-requires
 frames-reply-requires c κs =
-    let r : let a : tie.Start = search in Roomy (a .args .channels) (length (now (a .args .codes))) (length (now (a .args .tails))) = rooms-told
-    (rooms (search)) in
+    let r = rooms-told _ _ _ (rooms (search)) in
     (r .few, r .numbers, r .bytes)
 
 returns-3 : tie.Need-returns-3
@@ -47,6 +50,6 @@ block-reply-spec =
     (λ c. search block-early)
     frames-reply-requires
     (λ c. search (block-late, sym, _∙_))
-    (λ c κs. rooms-told (rooms (search)) .few)
+    (λ c κs. rooms-told _ _ _ (rooms (search)) .few)
     returns-3
     returns-4)

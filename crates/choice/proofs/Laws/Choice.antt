@@ -2,49 +2,58 @@
 -- Assumes nothing.
 use mathlib.Core.Path.{_≡_, refl, sym, ap, ap₂, _∙_, subst}
 use mathlib.Core.Bool.{Bool, true, false}
-use mathlib.Core.List.{List, map}
+use mathlib.Core.List.{List, [], _∷_, map}
 use Prim.Native.Nat.{ℕ, _+_, _*_, _%_, _≤_, _<_}
 use native.Mathlib.Omega.{arith}
 use lib.Dec.{ltb, eqb}
 use lib.ListN.{length, getD, take}
 use lib.Seq.{getD-take}
-use borrow.Author.Tests.{le-leb, lt-leb, eq-eqb, ne-eqb, eqb-true, eqb-false}
+use borrow.Author.Tests.{le-leb, lt-leb, eqb-true, eqb-false}
 use Rattle.ground.specs.Cases.{by-bool}
 use Rattle.ground.specs.Fills.{getD-table}
 use Rattle.ground.specs.Replies.{done, wideCode}
+use Rattle.ground.specs.Refusals.{first}
+use Rattle.ground.proofs.Laws.Refusals.{by-rows, front-first, back-first}
 use Rattle.ground.specs.Sums.{sumTo}
 use Rattle.ground.proofs.Laws.Sums.{sum-nil, sum-more, sum-same}
 use Rattle.bits.specs.Codings.{wordOf}
 use Rattle.words.specs.Tables.{coding}
 use Rattle.words.proofs.Laws.Spell.{word-few}
+use Rattle.norms.proofs.Laws.Answers.{chosen-no, chosen-yes}
 use Rattle.kinds.specs.Kinds.{kindOf, kinds}
 use Rattle.kinds.proofs.Laws.Kinds.{kind-first, kind-none, kind-plain}
 use Rattle.kinds.specs.Budget.{kindsAt}
 use Rattle.frame.specs.Layout.{kindsOf}
 use Rattle.frame.specs.declared.Record.{Record}
 use Rattle.layout.specs.Fits.{fits}
-use Rattle.layout.specs.Parts.{kindsFor, startReply, planOf}
+use Rattle.layout.specs.Parts.{kindsFor, startCauses, widthCause, planOf}
 use Rattle.layout.specs.declared.Plan.{Plan}
-use Rattle.layout.proofs.Laws.Parts.{room-800, Planned, planned}
-use Rattle.choice.specs.Choice.{wordy, asWord, asFixed, plain, rateAt, wordsCost, fixedCost, choiceReply, choiceOf}
+use Rattle.layout.proofs.Laws.Parts.{start-numbered, room-800, Planned, planned}
+use Rattle.choice.specs.Choice.{wordy, asWord, asFixed, plain, rateAt, wordsCost, fixedCost, choiceCauses, choiceReply, choiceOf}
 use Rattle.choice.specs.Inner.{cheaper}
 
 -- ---- the answer
 
-module _ (r : Record) (cs : List ℕ) (x : ℕ) (ex : x ≡ startReply r (length cs)) where
+module _ (r : Record) (cs : List ℕ) (x : ℕ) (ex : x ≡ first (startCauses r (length cs))) where
   pub choice-start : (x ≡ 0 → ⊥) → record { reply = x; flag = false } ≡ choiceOf r cs
-  unfolding choiceOf choiceReply
-  choice-start n = rw (← ex, ne-eqb x 0 n, ne-eqb x 0 n)
+  unfolding choiceOf choiceCauses
+  choice-start n = chosen-no (front-first _ _ ex n) (ltb (wordsCost r cs) (fixedCost r)) n
 
   module _ (z : x ≡ 0) (ks : List ℕ) (ek : ks ≡ kindsFor (plain r)) where
+    -- the codes decide
+    codes-first : {y : ℕ} → y ≡ first (widthCause ks (take 800 cs) ∷ []) → y ≡ choiceReply r cs
+    unfolding choiceCauses
+    codes-first e =
+        back-first _ _ (start-numbered r (length cs)) (sym ex ∙ z) (e ∙ ap (λ (l : List ℕ). first (widthCause l (take 800 cs) ∷ [])) ek)
+
     choice-wide : fits (map coding ks) (take 800 cs) ≡ false → record { reply = wideCode; flag = false } ≡ choiceOf r cs
-    unfolding choiceOf choiceReply
-    choice-wide f = rw (← ex, eq-eqb x 0 z, ← ek, f)
+    unfolding choiceOf
+    choice-wide f = chosen-no (codes-first (search by-rows)) (ltb (wordsCost r cs) (fixedCost r)) (λ k. omega arith)
 
     choice-made : fits (map coding ks) (take 800 cs) ≡ true → (b : Bool) → b ≡ ltb (wordsCost r cs) (fixedCost r)
         → record { reply = done; flag = b } ≡ choiceOf r cs
-    unfolding choiceOf choiceReply
-    choice-made f b e = rw (← ex, eq-eqb x 0 z, ← ek, f, e)
+    unfolding choiceOf
+    choice-made f b e = chosen-yes {x = done} (codes-first (search by-rows)) refl e
 
 -- ---- costs by the kinds of a frame with FlagC 0
 
@@ -161,7 +170,8 @@ pub record Ready (p : Plan) (cs : List ℕ) : Type 0 where
   pub same : length (p .kinds) ≡ length (take 800 cs)
   pub few : length (p .kinds) ≤ 800
 
-module _ {x : ℕ} {q : Record} {p : Plan} (r : Record) (cs : List ℕ) (ex : x ≡ startReply r (length cs)) (z : x ≡ 0) (eq : q ≡ plain r) (ep : p ≡ planOf q) where
+module _ {x : ℕ} {q : Record} {p : Plan} (r : Record) (cs : List ℕ) (ex : x ≡ first (startCauses r (length cs))) (z : x ≡ 0)
+    (eq : q ≡ plain r) (ep : p ≡ planOf q) where
   P : Planned (plain r) p
   P = planned (plain r) p (ep ∙ ap planOf eq)
 

@@ -15,3 +15,7 @@ true-T false e = absurd (false≢true e)
 pub and-true : (a b : Bool) → (a && b) ≡ true → (a ≡ true) × (b ≡ true)
 and-true true b e = (refl, e)
 and-true false b e = ((cc), (cc))
+
+pub T-and : (a b : Bool) → T a → T b → T (a && b)
+T-and true b x y = y
+T-and false b x y = absurd x

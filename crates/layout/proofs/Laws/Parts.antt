@@ -1,20 +1,22 @@
 -- Laws of specs/Parts.
 -- Assumes nothing.
 use mathlib.Core.Path.{_≡_, refl, sym, ap, ap₂, _∙_}
-use mathlib.Core.Bool.{Bool, true, false}
-use mathlib.Core.List.{List, [], _∷_, map}
-use Prim.Native.Nat.{ℕ, _+_, _-_, _*_, _≤_, _<_}
+use mathlib.Core.Bool.{Bool, true}
+use mathlib.Core.List.{List, map}
+use Prim.Native.Nat.{ℕ, _+_, _-_, _*_, _≤_}
 use native.Mathlib.Omega.{arith}
-use lib.Dec.{ltb, eqb}
+use lib.Dec.{T, ltb, eqb}
 use lib.ListN.{length, take}
 use lib.Seq.{length-take-le}
-use borrow.Author.Tests.{lt-ltb, le-ltb, eq-eqb, ne-eqb, ltb-true, ltb-false, eqb-true, eqb-false}
+use borrow.Author.Tests.{eq-eqb, ne-eqb, not-false, ltb-true, ltb-false, eqb-true}
 use Rattle.ground.specs.Cases.{by-bool}
-use Rattle.ground.specs.Replies.{done, pastBudget, outOfRange, shortRoom, wideCode}
+use Rattle.ground.specs.Replies.{done}
+use Rattle.ground.specs.Refusals.{first, notDone}
+use Rattle.ground.proofs.Laws.Refusals.{numbers, by-rows, none-first, first-none, front-first, back-first, neither-first, both-first}
 use Rattle.words.specs.Tables.{coding}
 use Rattle.prefix.specs.Sizes.{modeBytes}
 use Rattle.prefix.proofs.Laws.Sizes.{mode-bounds, mode-past}
-use Rattle.norms.specs.Answers.{normReply}
+use Rattle.norms.specs.Answers.{normCauses, normReply}
 use Rattle.norms.specs.Part.{normBits}
 use Rattle.norms.proofs.Laws.Part.{bits-few}
 use Rattle.allotment.specs.Allotment.{sharesOf}
@@ -27,8 +29,8 @@ use Rattle.frame.specs.declared.Record.{Record}
 use Rattle.kinds.specs.declared.Flags.{Flags}
 use Rattle.layout.specs.Fits.{fits}
 use Rattle.layout.specs.declared.Plan.{Plan}
-use Rattle.layout.specs.declared.Parts.{Parts}
-use Rattle.layout.specs.Parts.{flagBits, total, budgetFor, ratesFor, kindsFor, planOf, startReply, noParts, codesLong, partsWith, partsIn, layoutOf}
+use Rattle.layout.specs.Parts.{flagBits, total, budgetFor, ratesFor, kindsFor, planOf, startCauses, codesLong, codeCauses, layoutCauses}
+use Rattle.layout.specs.Parts.{noParts, partsWith, partsBy, partsIn, layoutOf}
 
 -- ---- the plan
 
@@ -83,21 +85,7 @@ budget-small r =
     (λ t. omega (arith, mode-bounds (r .mode) (ltb-true (r .mode) 20 t) .1))
     (λ t. omega (arith, mode-past (r .mode) (ltb-false (r .mode) 20 t)))
 
--- ---- the start, by the tests
-
-module _ (r : Record) (c : ℕ) where
-  pub start-mode : 19 < r .mode → outOfRange ≡ startReply r c
-  unfolding startReply
-  start-mode h = rw (lt-ltb 19 (r .mode) h)
-
-  module _ (m : r .mode ≤ 19) where
-    pub start-short : c < 800 → shortRoom ≡ startReply r c
-    unfolding startReply
-    start-short h = rw (le-ltb 19 (r .mode) m, lt-ltb c 800 h)
-
-    pub start-norms : 800 ≤ c → normReply (r .transient) (r .norms) ≡ startReply r c
-    unfolding startReply
-    start-norms h = rw (le-ltb 19 (r .mode) m, le-ltb c 800 h)
+-- ---- the start
 
 -- what a start of 0 tells
 pub record Started (r : Record) (c : ℕ) : Type 0 where
@@ -105,65 +93,72 @@ pub record Started (r : Record) (c : ℕ) : Type 0 where
   pub codes : 800 ≤ c
   pub norms : normReply (r .transient) (r .norms) ≡ done
 
-pub started : (r : Record) (c : ℕ) → startReply r c ≡ 0 → Started r c
-started r c e =
-    by-bool (ltb 19 (r .mode)) (λ a. absurd (let z = start-mode r c (ltb-true 19 (r .mode) a) in omega arith))
-    (λ a.
-    let m = ltb-false 19 (r .mode) a in
-    by-bool (ltb c 800) (λ b. absurd (let z = start-short r c m (ltb-true c 800 b) in omega arith))
-    (λ b. let l = ltb-false c 800 b in record { mode = m; codes = l; norms = start-norms r c m l ∙ e }))
+module _ (r : Record) (c : ℕ) where
+  pub started : first (startCauses r c) ≡ 0 → Started r c
+  unfolding startCauses normCauses
+  started e =
+      let q = first-none (startCauses r c) tt e in
+      record { mode = omega (arith, ltb-false); codes = omega (arith, ltb-false); norms = none-first (normCauses (r .transient) (r .norms)) (search) }
+
+  pub start-none : Started r c → first (startCauses r c) ≡ 0
+  unfolding startCauses
+  start-none S = sym (search (by-rows, sym))
+
+  pub start-numbered : T (numbers notDone (startCauses r c))
+  unfolding startCauses normCauses
+  start-numbered = tt
 
 -- 800 of its numbers are taken
-pub room-800 : (r : Record) (cs : List ℕ) (x : ℕ) → x ≡ startReply r (length cs) → x ≡ 0 → length (take 800 cs) ≡ 800
+pub room-800 : (r : Record) (cs : List ℕ) (x : ℕ) → x ≡ first (startCauses r (length cs)) → x ≡ 0 → length (take 800 cs) ≡ 800
 room-800 r cs x ex z = length-take-le 800 cs (started r (length cs) (sym ex ∙ z) .codes)
 
-pub parts-ready : {x : ℕ} {p : Plan} (r : Record) (cs : List ℕ) → x ≡ startReply r (length cs) → x ≡ 0 → p ≡ planOf r
+pub parts-ready : {x : ℕ} {p : Plan} (r : Record) (cs : List ℕ) → x ≡ first (startCauses r (length cs)) → x ≡ 0 → p ≡ planOf r
     → (length (p .kinds) ≡ length (take 800 cs)) × (length (p .kinds) ≤ 800) × (p .budget ≤ 2560)
 parts-ready {x} {p} r cs ex z ep =
     let P = planned r p ep in
     (P .long ∙ sym (room-800 r cs x ex z), omega (arith, P .long), omega (arith, P .budget, budget-small r))
 
--- ---- the parts, by the tests
+-- codes that fit their kinds and the budget have no cause
+pub codes-none : (budget : ℕ) (kinds vs : List ℕ) → fits (map coding kinds) vs ≡ true → codesLong kinds vs ≤ budget → first (codeCauses budget kinds vs) ≡ 0
+unfolding codeCauses
+codes-none budget kinds vs f p = sym (search by-rows)
+
+-- ---- the parts, by the reply
+
+module _ (x budget : ℕ) (rates : List ℕ) (n : ℕ) where
+  by-no : (x ≡ 0 → ⊥) → noParts x ≡ partsBy x budget rates n
+  by-no q = rw (ne-eqb x 0 q)
+
+  by-yes : x ≡ 0 → partsWith budget rates n ≡ partsBy x budget rates n
+  by-yes z = rw (eq-eqb x 0 z)
+
+  by-reply : partsBy x budget rates n .reply ≡ x
+  by-reply = by-bool (eqb x 0) (λ t. rw t (sym (eqb-true x 0 t))) (λ t. rw t)
 
 module _ (budget : ℕ) (rates kinds vs : List ℕ) where
-  pub parts-wide : fits (map coding kinds) vs ≡ false → noParts wideCode ≡ partsIn budget rates kinds vs
+  pub parts-no : {x : ℕ} → x ≡ first (codeCauses budget kinds vs) → (x ≡ 0 → ⊥) → noParts x ≡ partsIn budget rates kinds vs
   unfolding partsIn
-  parts-wide e = rw e
+  parts-no {x} e q = by-no x budget rates (codesLong kinds vs) q ∙ ap (λ (y : ℕ). partsBy y budget rates (codesLong kinds vs)) e
 
-  module _ (f : fits (map coding kinds) vs ≡ true) (n : ℕ) (en : n ≡ codesLong kinds vs) where
-    pub parts-past : budget < n → noParts pastBudget ≡ partsIn budget rates kinds vs
-    unfolding partsIn
-    parts-past h = rw (f, lt-ltb budget (codesLong kinds vs) (omega arith))
-
-    pub parts-made : n ≤ budget → partsWith budget rates n ≡ partsIn budget rates kinds vs
-    unfolding partsIn
-    parts-made h = ap (partsWith budget rates) en ∙ (rw (f, le-ltb budget (codesLong kinds vs) (omega arith)))
-
-  -- what parts with reply 0 tell
-  pub parts-told : partsIn budget rates kinds vs .reply ≡ 0
-      → (fits (map coding kinds) vs ≡ true) × (codesLong kinds vs ≤ budget) × (partsIn budget rates kinds vs ≡ partsWith budget rates (codesLong kinds vs))
-  parts-told e =
-      by-bool (fits (map coding kinds) vs)
-      (λ f.
-      by-bool (ltb budget (codesLong kinds vs))
-      (λ p. absurd (let z = ap (λ (x : Parts). x .reply) (parts-past f (codesLong kinds vs) refl (ltb-true budget (codesLong kinds vs) p)) in omega arith))
-      (λ p. let h = ltb-false budget (codesLong kinds vs) p in (f, h, sym (parts-made f (codesLong kinds vs) refl h))))
-      (λ f. absurd (let z = ap (λ (x : Parts). x .reply) (parts-wide f) in omega arith))
+  pub parts-yes : {n : ℕ} → done ≡ first (codeCauses budget kinds vs) → n ≡ codesLong kinds vs → partsWith budget rates n ≡ partsIn budget rates kinds vs
+  unfolding partsIn
+  parts-yes e q = ap (partsWith budget rates) q ∙ by-yes _ budget rates (codesLong kinds vs) (sym e)
 
 -- ---- the layout
 
-module _ (r : Record) (cs : List ℕ) (x : ℕ) (ex : x ≡ startReply r (length cs)) where
+module _ (r : Record) (cs : List ℕ) (x : ℕ) (ex : x ≡ first (startCauses r (length cs))) where
   pub layout-start : (x ≡ 0 → ⊥) → noParts x ≡ layoutOf r cs
-  unfolding layoutOf
-  layout-start n = rw (← ex, ne-eqb x 0 n)
-
-  pub layout-parts : x ≡ 0 → partsIn (budgetFor r) (ratesFor r) (kindsFor r) (take 800 cs) ≡ layoutOf r cs
-  unfolding layoutOf
-  layout-parts z = rw (← ex, eq-eqb x 0 z)
+  unfolding layoutOf layoutCauses
+  layout-start n =
+      by-no x (budgetFor r) (ratesFor r) _ n
+      ∙ ap (λ (y : ℕ). partsBy y (budgetFor r) (ratesFor r) (codesLong (kindsFor r) (take 800 cs))) (front-first _ _ ex n)
 
   pub layout-planned : x ≡ 0 → (p : Plan) → p ≡ planOf r → partsIn (p .budget) (p .rates) (p .kinds) (take 800 cs) ≡ layoutOf r cs
-  unfolding planOf
-  layout-planned z p e = ap (λ (y : Plan). partsIn (y .budget) (y .rates) (y .kinds) (take 800 cs)) e ∙ layout-parts z
+  unfolding planOf partsIn layoutOf layoutCauses
+  layout-planned z p e =
+      ap (λ (y : Plan). partsIn (y .budget) (y .rates) (y .kinds) (take 800 cs)) e
+      ∙ ap (λ (y : ℕ). partsBy y (budgetFor r) (ratesFor r) (codesLong (kindsFor r) (take 800 cs)))
+      (back-first _ _ (start-numbered r (length cs)) (sym ex ∙ z) refl)
 
 -- what a layout of reply 0 tells
 pub record Laid (r : Record) (cs : List ℕ) : Type 0 where
@@ -171,18 +166,26 @@ pub record Laid (r : Record) (cs : List ℕ) : Type 0 where
   pub fit : fits (map coding (kindsFor r)) (take 800 cs) ≡ true
   pub paid : codesLong (kindsFor r) (take 800 cs) ≤ budgetFor r
 
-pub laid-out : (r : Record) (cs : List ℕ) → Laid r cs → layoutOf r cs ≡ partsWith (budgetFor r) (ratesFor r) (codesLong (kindsFor r) (take 800 cs))
-laid-out r cs L =
-    let S = L .start in
-    sym (layout-parts r cs _ refl (sym (start-norms r (length cs) (S .mode) (S .codes)) ∙ S .norms))
-    ∙ sym (parts-made (budgetFor r) (ratesFor r) (kindsFor r) (take 800 cs) (L .fit) _ refl (L .paid))
+pub layout-reply : (r : Record) (cs : List ℕ) → layoutOf r cs .reply ≡ first (layoutCauses r cs)
+unfolding layoutOf
+layout-reply r cs = by-reply _ _ _ _
 
-pub laid-told : (r : Record) (cs : List ℕ) → layoutOf r cs .reply ≡ 0 → Laid r cs
-laid-told r cs e =
-    let s = startReply r (length cs) in
-    by-bool (eqb s 0)
-    (λ t.
-    let z = eqb-true s 0 t in
-    let p = parts-told (budgetFor r) (ratesFor r) (kindsFor r) (take 800 cs) (ap (λ (x : Parts). x .reply) (layout-parts r cs s refl z) ∙ e) in
-    record { start = started r (length cs) z; fit = p .0; paid = p .1 })
-    (λ t. let n = eqb-false s 0 t in absurd (n (ap (λ (x : Parts). x .reply) (layout-start r cs s refl n) ∙ e)))
+module _ (r : Record) (cs : List ℕ) where
+  pub layout-numbered : T (numbers notDone (layoutCauses r cs))
+  unfolding layoutCauses startCauses normCauses codeCauses
+  layout-numbered = tt
+
+  pub layout-none : Laid r cs → first (layoutCauses r cs) ≡ 0
+  unfolding layoutCauses
+  layout-none L = neither-first _ _ (start-none r (length cs) (L .start)) (codes-none _ _ _ (L .fit) (L .paid))
+
+  pub laid-out : Laid r cs → layoutOf r cs ≡ partsWith (budgetFor r) (ratesFor r) (codesLong (kindsFor r) (take 800 cs))
+  unfolding layoutOf
+  laid-out L = sym (by-yes _ (budgetFor r) (ratesFor r) _ (layout-none L))
+
+  pub laid-told : layoutOf r cs .reply ≡ 0 → Laid r cs
+  unfolding layoutCauses codeCauses
+  laid-told e =
+      let b = both-first _ (codeCauses (budgetFor r) (kindsFor r) (take 800 cs)) (start-numbered r (length cs)) (sym (layout-reply r cs) ∙ e) in
+      let q = first-none (codeCauses (budgetFor r) (kindsFor r) (take 800 cs)) tt (b .1) in
+      record { start = started r (length cs) (b .0); fit = not-false _ (search); paid = omega (arith, ltb-false) }

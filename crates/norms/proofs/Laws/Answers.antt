@@ -1,53 +1,40 @@
 -- Laws of specs/Answers.
 -- Assumes nothing.
 use mathlib.Core.Path.{_≡_, sym, ap, _∙_}
-use mathlib.Core.Bool.{Bool, true, false, cond}
+use mathlib.Core.Bool.{Bool, true, false}
 use mathlib.Core.List.{List, [], _∷_, map}
 use Prim.Native.Nat.{ℕ, _+_, _≤_, _<_}
-use lib.Dec.{leb, ltb}
+use lib.Dec.{ltb}
 use lib.ListN.{length, getD, drop, replicate}
 use native.Mathlib.Omega.{arith}
-use borrow.Author.Tests.{le-leb, lt-leb, leb-true, leb-false, lt-ltb, le-ltb, ltb-true, ltb-false, eq-eqb, ne-eqb}
+use borrow.Author.Tests.{not-false, lt-ltb, le-ltb, ltb-true, ltb-false, eq-eqb, ne-eqb}
 use Rattle.ground.specs.Cases.{by-bool}
-use Rattle.ground.specs.Indices.{inRange}
 use Rattle.ground.proofs.Laws.Indices.{range-yes, range-at}
-use Rattle.ground.specs.Replies.{done, outOfRange, farApart}
+use Rattle.ground.specs.Replies.{done}
+use Rattle.ground.proofs.Laws.Refusals.{first-none, by-rows}
 use Rattle.bits.specs.Codecs.{writeAll}
 use Rattle.words.specs.Tables.{coding}
 use Rattle.order.specs.Order.{sent}
 use Rattle.order.proofs.Laws.Order.{length-sent, sent-first, sent-each, each-sent}
-use Rattle.norms.specs.Steps.{stepsClose, Near}
+use Rattle.norms.specs.Steps.{Near}
 use Rattle.norms.proofs.Laws.Steps.{length-numbers, near-range, near-first, steps-near}
 use Rattle.norms.specs.Part.{numbersOf, normKinds, normBits, Writable}
 use Rattle.norms.proofs.Laws.Part.{bits-split}
-use Rattle.norms.specs.Answers.{normReply, wordTotal, choiceOf}
+use Rattle.norms.specs.Answers.{normCauses, normReply, wordTotal, chosen, choiceOf}
 
 -- ---- what the code answers
 
+module _ {x y : ℕ} (e : x ≡ y) where
+  pub chosen-no : (flag : Bool) → (x ≡ 0 → ⊥) → record { reply = x; flag = false } ≡ chosen y flag
+  chosen-no flag n = rw (← e, ne-eqb x 0 n)
+
+  pub chosen-yes : {a b : Bool} → x ≡ 0 → a ≡ b → record { reply = done; flag = a } ≡ chosen y b
+  chosen-yes z q = rw (← e, eq-eqb x 0 z) (ap (λ (t : Bool). record { reply = done; flag = t }) q)
+
 module _ (transient : Bool) (norms : List ℕ) where
-  pub reply-range : inRange norms 44 ≡ false → outOfRange ≡ normReply transient norms
-  unfolding normReply
-  reply-range e = rw e
-
-  pub reply-first : inRange norms 44 ≡ true → 31 < getD norms 0 0 → outOfRange ≡ normReply transient norms
-  unfolding normReply
-  reply-first e h = rw (e, lt-leb (getD norms 0 0) 31 h)
-
-  pub reply-steps : (t : Bool) → inRange norms 44 ≡ true → getD norms 0 0 ≤ 31 → stepsClose (sent transient norms) ≡ t
-      → cond t done farApart ≡ normReply transient norms
-  unfolding normReply
-  reply-steps t e h q = rw (e, le-leb (getD norms 0 0) 31 h, q)
-
-  module _ {ss : List ℕ} {b : Bool} (r : inRange norms 44 ≡ true) (h : getD norms 0 0 ≤ 31) (es : ss ≡ sent transient norms) (eb : b ≡ stepsClose ss) where
-    pub reply-close : b ≡ true → done ≡ normReply transient norms
-    reply-close q = reply-steps true r h (sym (eb ∙ ap stepsClose es) ∙ q)
-
-    pub reply-far : b ≡ false → farApart ≡ normReply transient norms
-    reply-far q = reply-steps false r h (sym (eb ∙ ap stepsClose es) ∙ q)
-
   pub choice-no : (r : ℕ) → r ≡ normReply transient norms → (r ≡ 0 → ⊥) → record { reply = r; flag = false } ≡ choiceOf transient norms
   unfolding choiceOf
-  choice-no r e n = rw (← e, ne-eqb r 0 n)
+  choice-no r e n = chosen-no e (ltb (wordTotal transient norms) 215) n
 
   module _ (l : length norms ≡ 44) where
     total : (ws : List ℕ) → 0 < length ws
@@ -65,7 +52,7 @@ module _ (transient : Bool) (norms : List ℕ) where
     unfolding choiceOf
     choice-yes r n e z q =
         let m : n ≡ 5 + wordTotal transient norms = q ∙ total-bits in
-        rw (← e, eq-eqb r 0 z) (ap (λ (t : Bool). record { reply = done; flag = t }) (same-ltb n (wordTotal transient norms) m))
+        chosen-yes e z (same-ltb n (wordTotal transient norms) m)
       where
         same-ltb : (n k : ℕ) → n ≡ 5 + k → ltb n 220 ≡ ltb k 215
         same-ltb n k e =
@@ -81,33 +68,29 @@ writable-range transient norms w =
 -- the reply is 0 exactly for norms that can be written
 module _ (transient : Bool) (norms : List ℕ) (l : length norms ≡ 44) where
   pub reply-writable : Writable transient norms → normReply transient norms ≡ done
+  unfolding normCauses
   reply-writable w =
       let ss = sent transient norms in
       let ls = length-sent transient norms l in
       let small = each-sent transient norms (λ (x : ℕ). x ≤ 39) (λ i h. near-range 15 ss (w .near) i (omega arith)) in
-      sym
-      (reply-steps transient norms true (range-yes norms 44 small) (first ss ls (w .near) (sent-first transient norms)) (steps-near ss (w .near)))
+      let range = range-yes norms 44 small in
+      let low = head ss ls (w .near) (sent-first transient norms) in
+      let close = steps-near ss (w .near) in
+      sym (search by-rows)
     where
-      first : (ss : List ℕ) → length ss ≡ 44 → Near 15 ss → getD ss 0 0 ≡ getD norms 0 0 → getD norms 0 0 ≤ 31
-      first [] ls n e = absurd (omega arith)
-      first (y ∷ ys) ls n e = omega (arith, n .2)
+      head : (ss : List ℕ) → length ss ≡ 44 → Near 15 ss → getD ss 0 0 ≡ getD norms 0 0 → getD norms 0 0 ≤ 31
+      head [] ls n e = absurd (omega arith)
+      head (y ∷ ys) ls n e = omega (arith, n .2)
 
   pub writable-reply : normReply transient norms ≡ done → Writable transient norms
+  unfolding normCauses
   writable-reply e =
-      by-bool (inRange norms 44)
-      (λ r.
-      by-bool (leb (getD norms 0 0) 31)
-      (λ f.
-      by-bool (stepsClose (sent transient norms))
-      (λ c.
+      let c = first-none (normCauses transient norms) tt e in
       let ls = length-sent transient norms l in
       let ss = sent transient norms in
       record {
         long = l;
         near =
-            near-first ss (omega arith) (λ i h. sent-each transient norms (λ (x : ℕ). x ≤ 39) (range-at norms 44 r) i (omega arith))
-            (omega (arith, sent-first transient norms, leb-true (getD norms 0 0) 31 f)) c;
-      })
-      (λ c. absurd (let z = reply-steps transient norms false r (leb-true _ _ f) c in omega arith)))
-      (λ f. absurd (let z = reply-first transient norms r (leb-false _ _ f) in omega arith)))
-      (λ r. absurd (let z = reply-range transient norms r in omega arith))
+            near-first ss (omega arith) (λ i h. sent-each transient norms (λ (x : ℕ). x ≤ 39) (range-at norms 44 (not-false _ (search))) i (omega arith))
+            (omega (arith, sent-first transient norms, ltb-false)) (not-false _ (search));
+      }

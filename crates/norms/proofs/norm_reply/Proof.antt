@@ -1,20 +1,27 @@
 -- `norms::norm_reply` meets its contract, in 01's order. Assumes nothing.
-use borrow.Author.Tests.{not-true, not-false}
-use mathlib.Core.Path.{sym, _∙_}
-use Rattle.norms.proofs.Laws.Answers.{reply-range, reply-first, reply-close, reply-far}
+use mathlib.Core.Path.{_≡_, ap, _∙_}
+use Rattle.order.specs.Order.{sent}
+use Rattle.ground.proofs.Laws.Refusals.{by-rows}
+use Rattle.norms.specs.Steps.{stepsClose}
+use Rattle.norms.specs.Answers.{normCauses}
 use borrow.Author.Needs.{needs}
 use Rattle.norms.proofs.norm_reply.Statement.{statement}
 use Rattle.norms.proofs.norm_reply.Tie as tie
 
+-- the differences in sent order
+close : (w : tie.After-steps-close) → let a : tie.Start = search in w .steps-close .result ≡ stepsClose (sent (a .args .transient) (a .args .t2))
+close w = let o : tie.After-sent-order = search in w .steps-close .ensures ∙ ap stepsClose (o .sent-order .ensures)
+
 pub norm-reply-spec : {M : Type 1} → statement M
+unfolding normCauses
 norm-reply-spec =
     tie.close
     (tie.spec
     (λ c κs. search needs)
-    (λ c. search (reply-range, not-true, sym, _∙_))
+    (λ c. search by-rows)
     (λ c. search needs)
-    (λ c. search (reply-first, not-false, sym, _∙_))
+    (λ c. search by-rows)
     (λ c κs. search needs)
     (λ c κs. search needs)
-    (λ c. search (reply-close, not-false, sym, _∙_))
-    (λ c. search (reply-far, not-false, sym, _∙_)))
+    (λ c. search (by-rows, close (search)))
+    (λ c. search (by-rows, close (search))))

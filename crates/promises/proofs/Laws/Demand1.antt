@@ -36,8 +36,7 @@ use Rattle.codebook.specs.declared.Row.{Row}
 use Rattle.frame.specs.Answers.{Outcome, refused, empty, sound, readAnswer, noRecord, readingOf, codesAfter, tailAfter}
 use Rattle.frame.specs.declared.Record.{Record}
 use Rattle.frame.specs.declared.Reading.{Reading}
-use Rattle.layout.specs.Fits.{fits}
-use Rattle.layout.specs.Parts.{kindsFor, budgetFor, codesLong, startReply, noParts, partsIn, layoutOf}
+use Rattle.layout.specs.Parts.{noParts, layoutCauses, layoutOf}
 use Rattle.layout.specs.declared.Parts.{Parts}
 use Rattle.choice.specs.Choice.{choiceReply, choiceOf as flagC}
 use Rattle.writer.specs.Empty.{emptyReply, emptyAfter}
@@ -52,7 +51,7 @@ use Rattle.block_reader.specs.declared.Block.{Block}
 use Rattle.block_writer.specs.Writing as blockWritten
 use Rattle.channels.specs.Copies.{extractAnswer}
 use Rattle.joining.specs.Joining.{joinAnswer}
-use Rattle.promises.specs.OneOf.{among, OneOf}
+use Rattle.ground.specs.Refusals.{first, among, OneOf}
 use Rattle.promises.specs.Calls as call
 use Rattle.promises.specs.Demand1.{Refused, Untouched, Zeros, NextPlaces, Demand1, placeOn}
 use Rattle.promises.proofs.Laws.Picked.{picked}
@@ -157,14 +156,8 @@ abbrev PartsZeros : Parts → Type 0
 PartsZeros a = Refused (a .reply) → a ≡ noParts (a .reply)
 
 layout-zeros : (r : Record) (codes : List ℕ) → PartsZeros (layoutOf r codes)
-unfolding layoutOf partsIn
-layout-zeros r codes =
-    let ks = kindsFor r in
-    let vs = take 800 codes in
-    picked PartsZeros (eqb (startReply r (length codes)) 0) _ _
-    (picked PartsZeros (fits (map coding ks) vs) _ _ (picked PartsZeros (ltb (budgetFor r) (codesLong ks vs)) _ _ (λ n. refl) (λ n. absurd (n refl)))
-    (λ n. refl))
-    (λ n. refl)
+unfolding layoutOf
+layout-zeros r codes = picked PartsZeros (eqb (first (layoutCauses r codes)) 0) _ _ (λ n. absurd (n refl)) (λ n. refl)
 
 legal-zeros : (transient : Bool) (norms : List ℕ) → let a = legalised transient norms in Refused (a .reply)
     → a ≡ record { reply = a .reply; norms = replicate 44 0 }

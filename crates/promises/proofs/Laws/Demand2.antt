@@ -23,13 +23,12 @@ use Rattle.kinds.specs.Budget.{kindsAt}
 use Rattle.frame.specs.Answers.{Outcome, refused, empty, sound, outcome, readBody, readAnswer, readingOf, codesAfter, tailAfter}
 use Rattle.frame.proofs.Laws.Reads.{read-started, data-whole}
 use Rattle.frame.specs.declared.Record.{Record}
-use Rattle.layout.specs.Parts.{kindsFor, budgetFor, ratesFor, codesLong, startReply, partsWith, layoutOf}
+use Rattle.layout.specs.Parts.{kindsFor, budgetFor, ratesFor, codesLong, partsWith, layoutOf}
 use Rattle.layout.proofs.Laws.Parts.{laid-out, laid-told}
 use Rattle.writer.specs.Writes.{writeReply, outAfter, Roomy}
-use Rattle.writer.proofs.Laws.Writes.{reply-late, rooms-enough, late-pad}
 use Rattle.layout.specs.declared.Parts.{Parts}
 use Rattle.tails.specs.Tails.{clear}
-use Rattle.layout.proofs.Laws.Fits.{all-fits}
+use Rattle.layout.proofs.Laws.Fits.{all-fits, fits-all}
 use Rattle.writer.specs.Bodies.{Passed}
 use Rattle.writer.proofs.Laws.Bodies.{passed, writes}
 use Rattle.writer.proofs.Laws.ReadBack as readback
@@ -87,12 +86,18 @@ returned src codes tail out (sound mode x) b e n z h =
 layout-writes : (r : Record) (cs ts : List ℕ) (room : ℕ) → layoutOf r cs .reply ≡ 0 → Roomy r (length cs) (length ts) room
     → clear (view ts (layoutOf r cs .«tail_bits») (2560 - layoutOf r cs .«tail_bits»)) ≡ true
     → writeReply (withTail (layoutOf r cs .«tail_bits») r) cs ts room ≡ 0
-unfolding layoutOf startReply
 layout-writes r cs ts room z R c =
-    let n = layoutOf r cs .«tail_bits» in
-    let w = withTail n r in
-    let Q : Roomy w (length cs) (length ts) room = record { mode = R .mode; codes = R .codes; tail = R .tail; out = R .out; quiet = R .quiet } in
-    sym (reply-late w cs ts room _ _ refl (rooms-enough w (length cs) (length ts) room Q) (late-pad (layoutOf w cs) ts n z true refl c))
+    let L = laid-told r cs z in
+    let n : layoutOf r cs .«tail_bits» ≡ budgetFor r - codesLong (kindsFor r) (take 800 cs) = ap (λ (p : Parts). p .«tail_bits») (laid-out r cs L) in
+    writes (withTail (layoutOf r cs .«tail_bits») r) cs ts room
+    (record {
+      rooms = record { mode = R .mode; codes = R .codes; tail = R .tail; out = R .out; quiet = R .quiet };
+      norms = L .start .norms;
+      fit = fits-all _ (take 800 cs) (L .fit);
+      paid = L .paid;
+      count = n;
+      pad = c;
+    })
 
 written-laid-out : (r : Record) (cs ts : List ℕ) (room : ℕ) → writeReply r cs ts room ≡ 0
     → layoutOf r cs ≡ partsWith (budgetFor r) (ratesFor r) (budgetFor r - r .«tail_bits»)

@@ -1,20 +1,19 @@
 -- The numbers that each call can answer.
 -- Assumes nothing.
-use mathlib.Core.Path.{_≡_, refl, sym, ap, subst, _∙_}
-use mathlib.Core.Bool.{Bool, true, false, cond, _&&_}
-use mathlib.Core.List.{List, [], _∷_, _++_, map}
+use mathlib.Core.Path.{_≡_, refl, sym, subst}
+use mathlib.Core.Bool.{Bool, true, false, _&&_}
+use mathlib.Core.List.{List, [], _∷_, _++_}
 use mathlib.Core.Logic.{inl, inr}
 use mathlib.Core.Option.{Option, some, none}
-use Prim.Native.Nat.{ℕ, zero, suc, _+_, _-_, _^_, _≤_, _<_}
+use Prim.Native.Nat.{ℕ, zero, suc, _+_, _-_, _^_, _≤_}
 use native.Mathlib.Omega.{arith}
 use lib.Dec.{eqb, ltb, leb}
-use lib.IntN.{ℤ, pos}
-use lib.ListN.{length, getD, take, replicate}
-use borrow.Author.Tests.{ne-eqb, lt-ltb, eqb-true}
+use lib.IntN.{ℤ}
+use lib.ListN.{length}
 use Rattle.ground.specs.Cases.{by-bool}
-use Rattle.ground.specs.Fills.{from}
 use Rattle.ground.specs.Indices.{inRange}
-use Rattle.ground.specs.Replies.{done, outOfRange, farApart, shortRoom, wideCode, pastBudget, wrongTail}
+use Rattle.ground.specs.Refusals.{among, OneOf}
+use Rattle.ground.proofs.Laws.Refusals.{first-number}
 use Rattle.bits.specs.Bits.{view}
 use Rattle.bits.specs.Codings.{Coding, fixed, prefix, Answer, got, no, orElse, find, strip, keep, below as belowIn, whole, unword}
 use Rattle.words.specs.Tables.{coding}
@@ -22,15 +21,12 @@ use Rattle.words.specs.Answers.{placed, wordAt, numberOf}
 use Rattle.runs.specs.Runs.{passedUp, runReply}
 use Rattle.words.specs.declared.Word.{Word}
 use Rattle.words.specs.declared.Word.the-variants.{At, No}
-use Rattle.prefix.specs.Sizes.{modeBytes}
-use Rattle.prefix.specs.Prefix.{prefixOf, byteOf, readingOf as prefixReading, writingOf as prefixWriting, Reading as PrefixAnswer, Writing as ByteAnswer}
+use Rattle.prefix.specs.Prefix.{prefixOf, byteOf, readingOf as prefixReading, writingOf as prefixWriting}
 use Rattle.prefix.specs.declared.Prefix.{Prefix}
 use Rattle.prefix.specs.declared.Prefix.the-variants.{Data, NoData, NoByte, Marked, Reserved}
 use Rattle.prefix.specs.declared.Byte.{Byte}
 use Rattle.prefix.specs.declared.Byte.the-variants.{Is, OutOfRange}
-use Rattle.order.specs.Order.{sent}
-use Rattle.norms.specs.Steps.{stepsClose}
-use Rattle.norms.specs.Answers.{normReply, choiceOf as flagN}
+use Rattle.norms.specs.Answers.{normCauses, normReply, choiceOf as flagN}
 use Rattle.legal.specs.Answers.{legalised}
 use Rattle.norms.specs.declared.Choice.{Choice}
 use Rattle.legal.specs.declared.Legal.{Legal}
@@ -44,22 +40,17 @@ use Rattle.points.specs.declared.Point.{Point}
 use Rattle.points.specs.declared.Index.{Index}
 use Rattle.codebook.specs.Codebook.{eight, book, placeOf, rowPoint, rowIndex}
 use Rattle.codebook.specs.declared.Row.{Row}
-use Rattle.frame.specs.Answers.{Outcome, refused, empty, sound, readAnswer, noRecord, readingOf, codesAfter, tailAfter}
-use Rattle.frame.specs.declared.Reading.{Reading}
+use Rattle.frame.specs.Answers.{Outcome, empty, readAnswer, readingOf}
 use Rattle.frame.specs.declared.Record.{Record}
-use Rattle.writer.specs.Tests.{quietOf}
-use Rattle.layout.specs.Fits.{fits}
-use Rattle.tails.specs.Tails.{clear}
-use Rattle.writer.specs.Empty.{emptyReply, emptyAfter}
-use Rattle.layout.specs.Parts.{kindsFor, budgetFor, codesLong, startReply, partsIn, layoutOf}
-use Rattle.writer.specs.Writes.{roomReply, tailReply, writeReply, outAfter, writingOf}
-use Rattle.choice.specs.Choice.{plain, choiceReply, choiceOf as flagC}
-use Rattle.layout.specs.declared.Parts.{Parts}
+use Rattle.writer.specs.Empty.{emptyReply}
+use Rattle.layout.specs.Parts.{startCauses, codeCauses, layoutCauses, layoutOf}
+use Rattle.layout.proofs.Laws.Parts.{layout-reply}
+use Rattle.writer.specs.Writes.{roomCauses, tailCauses, writeCauses, writeReply}
+use Rattle.choice.specs.Choice.{choiceCauses, choiceReply, choiceOf as flagC}
 use Rattle.writer.specs.declared.Writing.{Writing as Written}
-use Rattle.listing.specs.Listing.{listedIn, outAfter as listed}
+use Rattle.listing.specs.Listing.{listedIn}
 use Rattle.listing.specs.declared.Listing.{Listing}
-use Rattle.recording.specs.Walk.{walk, booked, mostFrames, checkOver, checkOf}
-use Rattle.recording.specs.declared.answer.Check.{Check}
+use Rattle.recording.specs.Walk.{walk, mostFrames, checkOf}
 use Rattle.recording.specs.Checked.{Number}
 use Rattle.recording.proofs.Laws.Checked.{check-replies}
 use Rattle.recording.specs.Frames.{Frames}
@@ -67,16 +58,16 @@ use Rattle.recording.proofs.Laws.Frames.{frame-lawful}
 use Rattle.recording.proofs.Laws.Units.{Told, Stop, ended, passed, met, walk-told}
 use Rattle.recording.specs.Blocks.{isCount, blockStep, walkBlocks, checkBlocks}
 use Rattle.recording.proofs.Laws.Blocks.{block-lawful, counted}
+use Rattle.frames.specs.Rooms.{roomCauses as blockRooms}
 use Rattle.block_reader.specs.Reading as blockRead
-use Rattle.block_reader.specs.declared.Block.{Block}
 use Rattle.block_writer.specs.Writing as blockWritten
 use Rattle.block_writer.specs.declared.Records.{Records}
 use Rattle.block_writer.proofs.Laws.ReplyNumbers.{read-numbers, write-numbers}
-use Rattle.channels.specs.Copies.{checkAnswer, extracted, isAmong, extractAnswer, extractAfter, copiedTo}
-use Rattle.joining.specs.Joining.{startOf, recordingAt, ownCheck, refusedIn, equalCounts, checkAll, joinedOf, joinAnswer, joinAfter}
+use Rattle.channels.specs.Copies.{checkAnswer, extracted, isAmong, extractAnswer}
+use Rattle.joining.specs.Joining.{startOf, recordingAt, ownCheck, refusedIn, equalCounts, checkAll, joinedOf, joinAnswer}
 use Rattle.channels.specs.declared.Copied.{Copied}
 use Rattle.channels.proofs.Laws.Extracting.{among-told}
-use Rattle.promises.specs.OneOf.{among, OneOf}
+use Rattle.block_reader.specs.declared.Block.{Block}
 use Rattle.promises.proofs.Laws.Readings.{each-reading}
 use Rattle.promises.proofs.Laws.Picked.{picked}
 use Rattle.promises.specs.Demand1.{Numbered}
@@ -98,53 +89,9 @@ read-number = each-reading Reads tt tt tt tt tt tt tt tt tt (λ mode x. tt)
 abbrev writing : List ℕ
 writing = 0 ∷ 7 ∷ 8 ∷ 9 ∷ 10 ∷ 12 ∷ 13 ∷ []
 
--- what the norms say: 0, 8, 9
-norm-among : (xs : List ℕ) → OneOf xs 0 → OneOf xs 8 → OneOf xs 9 → (transient : Bool) (norms : List ℕ) → OneOf xs (normReply transient norms)
-unfolding normReply
-norm-among xs z e n transient norms =
-    picked (OneOf xs) (inRange norms 44 && leb (getD norms 0 0) 31) (cond (stepsClose (sent transient norms)) done farApart) outOfRange
-    (picked (OneOf xs) (stepsClose (sent transient norms)) done farApart z n) e
-
-room-number : (r : Record) (codes tail room : ℕ) → OneOf writing (roomReply r codes tail room)
-unfolding among roomReply
-room-number r codes tail room =
-    picked (OneOf writing) (ltb 19 (r .mode)) outOfRange _ tt
-    (picked (OneOf writing) (ltb codes 800) shortRoom _ tt
-    (picked (OneOf writing) (ltb tail 320) shortRoom _ tt
-    (picked (OneOf writing) (ltb room (modeBytes (r .mode) + 1)) shortRoom _ tt
-    (picked (OneOf writing) (quietOf (r .transient) (r .noise)) done outOfRange tt tt))))
-
--- how a record starts: 0, 8, 9, 10
-start-among : (xs : List ℕ) → OneOf xs 0 → OneOf xs 8 → OneOf xs 9 → OneOf xs 10 → (r : Record) (codes : ℕ) → OneOf xs (startReply r codes)
-unfolding startReply
-start-among xs z e n t r codes =
-    picked (OneOf xs) (ltb 19 (r .mode)) outOfRange _ e (picked (OneOf xs) (ltb codes 800) shortRoom _ t (norm-among xs z e n (r .transient) (r .norms)))
-
--- how it is laid out: 7 and 12 too
-layout-among : (xs : List ℕ) → OneOf xs 0 → OneOf xs 7 → OneOf xs 8 → OneOf xs 9 → OneOf xs 10 → OneOf xs 12 → (r : Record) (codes : List ℕ)
-    → OneOf xs (layoutOf r codes .reply)
-unfolding layoutOf partsIn
-layout-among xs z s e n t w r codes =
-    let ks = kindsFor r in
-    let vs = take 800 codes in
-    let x = startReply r (length codes) in
-    picked (λ (p : Parts). OneOf xs (p .reply)) (eqb x 0) _ _
-    (picked (λ (p : Parts). OneOf xs (p .reply)) (fits (map coding ks) vs) _ _
-    (picked (λ (p : Parts). OneOf xs (p .reply)) (ltb (budgetFor r) (codesLong ks vs)) _ _ s z) w)
-    (start-among xs z e n t r (length codes))
-
-tail-number : (ts : List ℕ) (left count : ℕ) → OneOf writing (tailReply ts left count)
-unfolding among tailReply
-tail-number ts left count =
-    picked (OneOf writing) (eqb count left) _ wrongTail (picked (OneOf writing) (clear (view ts count (2560 - count))) done wrongTail tt tt) tt
-
 pub write-number : (r : Record) (codes tail : List ℕ) (room : ℕ) → OneOf writing (writeReply r codes tail room)
-unfolding among writeReply
-write-number r codes tail room =
-    let p = layoutOf r codes in
-    picked (OneOf writing) (eqb (roomReply r (length codes) (length tail) room) 0) _ _
-    (picked (OneOf writing) (eqb (p .reply) 0) _ _ (tail-number tail (p .«tail_bits») (r .«tail_bits»)) (layout-among writing tt tt tt tt tt tt r codes))
-    (room-number r (length codes) (length tail) room)
+unfolding among writeCauses roomCauses normCauses codeCauses tailCauses
+write-number r codes tail room = first-number (among writing) (writeCauses r codes tail room) tt tt
 
 -- ---- an empty frame: 0, 10
 
@@ -155,26 +102,26 @@ empty-number room = picked (λ (w : Written). OneOf (0 ∷ 10 ∷ []) (w .reply)
 -- ---- the choices: FlagN 0, 8, 9; FlagC 0, 8, 9, 10, 12
 
 pub flag-n-number : (transient : Bool) (norms : List ℕ) → OneOf (0 ∷ 8 ∷ 9 ∷ []) (flagN transient norms .reply)
-unfolding among flagN
+unfolding among flagN normCauses
 flag-n-number transient norms =
-    picked (λ (c : Choice). OneOf (0 ∷ 8 ∷ 9 ∷ []) (c .reply)) (eqb (normReply transient norms) 0) _ _ tt (norm-among (0 ∷ 8 ∷ 9 ∷ []) tt tt tt transient norms)
+    picked (λ (c : Choice). OneOf (0 ∷ 8 ∷ 9 ∷ []) (c .reply)) (eqb (normReply transient norms) 0) _ _ tt
+    (first-number (among (0 ∷ 8 ∷ 9 ∷ [])) (normCauses transient norms) tt tt)
 
 abbrev choosing : List ℕ
 choosing = 0 ∷ 8 ∷ 9 ∷ 10 ∷ 12 ∷ []
 
 pub flag-c-number : (r : Record) (codes : List ℕ) → OneOf choosing (flagC r codes .reply)
-unfolding among flagC choiceReply
+unfolding among flagC choiceCauses startCauses normCauses
 flag-c-number r codes =
-    let x = startReply r (length codes) in
-    picked (λ (c : Choice). OneOf choosing (c .reply)) (eqb (choiceReply r codes) 0) _ _ tt
-    (picked (OneOf choosing) (eqb x 0) _ x (picked (OneOf choosing) (fits (map coding (kindsFor (plain r))) (take 800 codes)) done wideCode tt tt)
-    (start-among choosing tt tt tt tt r (length codes)))
+    picked (λ (c : Choice). OneOf choosing (c .reply)) (eqb (choiceReply r codes) 0) _ _ tt (first-number (among choosing) (choiceCauses r codes) tt tt)
 
 -- ---- the layout of a record: 0, 7, 8, 9, 10, 12
 
 pub layout-number : (r : Record) (codes : List ℕ) → OneOf (0 ∷ 7 ∷ 8 ∷ 9 ∷ 10 ∷ 12 ∷ []) (layoutOf r codes .reply)
-unfolding among
-layout-number r codes = layout-among (0 ∷ 7 ∷ 8 ∷ 9 ∷ 10 ∷ 12 ∷ []) tt tt tt tt tt tt r codes
+unfolding among layoutCauses startCauses normCauses codeCauses
+layout-number r codes =
+    subst (OneOf (0 ∷ 7 ∷ 8 ∷ 9 ∷ 10 ∷ 12 ∷ [])) (sym (layout-reply r codes))
+    (first-number (among (0 ∷ 7 ∷ 8 ∷ 9 ∷ 10 ∷ 12 ∷ [])) (layoutCauses r codes) tt tt)
 
 -- ---- a recording: 0, 2, 3, 4, 5, 6, 7, 11, 15
 
@@ -221,13 +168,14 @@ check-number src booking = number-one checking tt tt tt tt tt tt tt tt tt (check
 
 pub read-block-number : (src : List ℕ) (channels codes tails : ℕ)
     → OneOf (0 ∷ 1 ∷ 2 ∷ 3 ∷ 4 ∷ 5 ∷ 6 ∷ 7 ∷ 10 ∷ 17 ∷ []) (blockRead.blockReply src channels codes tails)
-unfolding among
-read-block-number = read-numbers (OneOf (0 ∷ 1 ∷ 2 ∷ 3 ∷ 4 ∷ 5 ∷ 6 ∷ 7 ∷ 10 ∷ 17 ∷ [])) tt tt tt tt tt tt tt tt tt tt
+unfolding among blockRooms
+read-block-number src channels codes tails = read-numbers (among (0 ∷ 1 ∷ 2 ∷ 3 ∷ 4 ∷ 5 ∷ 6 ∷ 7 ∷ 10 ∷ 17 ∷ [])) tt src channels codes tails tt
 
 pub write-block-number : (r : Records) (channels : ℕ) (codes tails : List ℕ) (room : ℕ)
     → OneOf (0 ∷ 7 ∷ 8 ∷ 9 ∷ 10 ∷ 12 ∷ 13 ∷ 17 ∷ []) (blockWritten.blockReply r channels codes tails room)
-unfolding among
-write-block-number = write-numbers (OneOf (0 ∷ 7 ∷ 8 ∷ 9 ∷ 10 ∷ 12 ∷ 13 ∷ 17 ∷ [])) tt tt tt tt tt tt tt tt
+unfolding among blockRooms writeCauses roomCauses normCauses codeCauses tailCauses
+write-block-number r channels codes tails room =
+    write-numbers (among (0 ∷ 7 ∷ 8 ∷ 9 ∷ 10 ∷ 12 ∷ 13 ∷ 17 ∷ [])) r channels codes tails room tt tt (λ r cs ts. tt) tt
 
 abbrev blockChecking : List ℕ
 blockChecking = 0 ∷ 2 ∷ 3 ∷ 4 ∷ 5 ∷ 6 ∷ 7 ∷ 11 ∷ 15 ∷ 17 ∷ []

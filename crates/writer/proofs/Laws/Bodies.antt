@@ -5,10 +5,9 @@ use mathlib.Core.Bool.{Bool, true, false}
 use mathlib.Core.List.{List, [], _∷_, _++_, append-assoc, map}
 use Prim.Native.Nat.{ℕ, _+_, _*_, _^_, _<_, min}
 use native.Mathlib.Omega.{arith}
-use borrow.Author.Tests.{eqb-true, ltb-true, eq-eqb, ne-eqb}
-use lib.Dec.{eqb}
+use borrow.Author.Tests.{eqb-true, ltb-true, ltb-false, not-false, eq-eqb, ne-eqb}
 use lib.ListN.{length, take, drop, set, length-append}
-use Rattle.ground.specs.Cases.{by-bool}
+use Rattle.ground.proofs.Laws.Refusals.{by-rows, first-none, neither-first}
 use Rattle.ground.specs.Replies.{done}
 use Rattle.bits.specs.Bits.{num, word, view, laid, bytesOf, Bytes}
 use Rattle.bits.proofs.Laws.Numbers.{length-word}
@@ -26,6 +25,7 @@ use Rattle.prefix.specs.declared.Byte.the-variants as Byte
 use Rattle.norms.specs.Part.{normBits, Writable}
 use Rattle.norms.proofs.Laws.Codec.{write-is, ok-writable}
 use Rattle.norms.proofs.Laws.Part.{norm-bits}
+use Rattle.norms.specs.Answers.{normCauses}
 use Rattle.norms.proofs.Laws.Answers.{writable-reply}
 use Rattle.kinds.specs.Budget.{spare}
 use Rattle.kinds.proofs.Laws.Budget.{spare-le}
@@ -34,12 +34,11 @@ use Rattle.frame.proofs.Laws.Layout.{frame-bits}
 use Rattle.frame.specs.declared.Record.{Record}
 use Rattle.writer.specs.Tests.{quietOf}
 use Rattle.layout.proofs.Laws.Fits.{fits-all, all-fits}
-use Rattle.layout.specs.Parts.{flagBits, total, kindsFor, firstOf, layoutOf}
-use Rattle.layout.proofs.Laws.Parts.{Laid, laid-out, laid-told}
-use Rattle.writer.specs.Writes.{frameOf, bytesFor, roomReply, lateReply, writeReply, outAfter, writingOf}
-use Rattle.writer.proofs.Laws.Writes.{reply-late, rooms-enough, rooms-told, late-told, late-pad}
+use Rattle.layout.specs.Parts.{flagBits, total, kindsFor, codeCauses}
+use Rattle.writer.specs.Writes.{frameOf, bytesFor, roomCauses, tailCauses, writeCauses, writeReply, outAfter, writingOf}
+use Rattle.layout.proofs.Laws.Parts.{codes-none}
+use Rattle.writer.proofs.Laws.Writes.{rooms-enough, rooms-told, tail-none}
 use Rattle.writer.specs.declared.Writing.{Writing}
-use Rattle.layout.specs.declared.Parts.{Parts}
 use Rattle.writer.specs.Bodies.{bodyBits, Passed}
 
 -- they are the frame's
@@ -137,42 +136,26 @@ module _ (r : Record) (vs ts s₀ s₁ s₂ s₃ s₄ s₅ : List ℕ) (f n m k 
       e₅ ∙ ap₂ (λ (x : List ℕ) (i : ℕ). laid x i e) four-parts p ∙ laid-append s₀ 8 (((a ++ b) ++ c) ++ d) e
       ∙ ap (laid s₀ 8) (append-assoc ((a ++ b) ++ c) d e ∙ append-assoc (a ++ b) c (d ++ e) ∙ append-assoc a b (c ++ (d ++ e)))
 
-first-zero : (x y : ℕ) → firstOf x y ≡ 0 → (x ≡ 0) × (y ≡ 0)
-first-zero x y e =
-    by-bool (eqb x 0) (λ t. let z : x ≡ 0 = eqb-true x 0 t in (z, rw t at e)) (λ t. absurd (borrow.Author.Tests.eqb-false x 0 t (rw t at e)))
-
-left : Parts → ℕ
-left p = p .«tail_bits»
-
 pub passed : (r : Record) (cs ts : List ℕ) (room : ℕ) → writeReply r cs ts room ≡ 0 → Passed r cs ts room
-unfolding writeReply left
+unfolding writeCauses roomCauses normCauses codeCauses tailCauses
 passed r cs ts room e =
-    let q = first-zero (roomReply r (length cs) (length ts) room) (lateReply (layoutOf r cs) ts (r .«tail_bits»)) e in
-    let t = late-told (layoutOf r cs) ts (r .«tail_bits») (q .1) in
-    let L = laid-told r cs (t .0) in
+    let q = first-none (writeCauses r cs ts room) tt e in
     record {
-      rooms = rooms-told r (length cs) (length ts) room (q .0);
-      norms = L .start .norms;
-      fit = fits-all (map coding (kindsFor r)) (take 800 cs) (L .fit);
-      paid = L .paid;
-      count = t .1 ∙ ap left (laid-out r cs L);
-      pad = t .2;
+      rooms = rooms-told r (length cs) (length ts) room (sym (search by-rows depth 7));
+      norms = sym (search by-rows);
+      fit = fits-all (map coding (kindsFor r)) (take 800 cs) (not-false _ (search));
+      paid = omega (arith, ltb-false);
+      count = eqb-true _ _ (not-false _ (search));
+      pad = not-false _ (search);
     }
 
 -- and every record that obeys these rules is written
 pub writes : (r : Record) (cs ts : List ℕ) (room : ℕ) → Passed r cs ts room → writeReply r cs ts room ≡ 0
-unfolding left
+unfolding writeCauses
 writes r cs ts room P =
-    let R = P .rooms in
-    let L : Laid r cs =
-    record {
-      start = record { mode = R .mode; codes = R .codes; norms = P .norms };
-      fit = all-fits _ (take 800 cs) (P .fit);
-      paid = P .paid;
-    } in
-    let l = laid-out r cs L in
-    sym (reply-late r cs ts room _ _ refl (rooms-enough r (length cs) (length ts) room R)
-    (late-pad (layoutOf r cs) ts (r .«tail_bits») (ap (λ (p : Parts). p .reply) l) true (P .count ∙ sym (ap left l)) (P .pad)))
+    let rooms = neither-first _ _ (rooms-enough r (length cs) (length ts) room (P .rooms)) (P .norms) in
+    let codes = neither-first _ _ rooms (codes-none _ _ _ (all-fits _ (take 800 cs) (P .fit)) (P .paid)) in
+    neither-first _ _ codes (tail-none ts _ _ (P .count) (P .pad))
 
 -- ---- a record that passes means a frame of its mode's length
 

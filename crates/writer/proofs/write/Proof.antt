@@ -6,8 +6,7 @@ use lib.ListN.{length, take, length-set}
 use lib.Seq.{length-take-le}
 use Rattle.bits.proofs.Laws.Laid.{length-laid}
 use Rattle.layout.proofs.Laws.Parts.{started, Planned, planned, budget-small, layout-planned}
-use Rattle.layout.specs.declared.Parts.{Parts}
-use Rattle.writer.specs.Writes.{lateReply, writeReply}
+use Rattle.writer.specs.Writes.{writeReply}
 use Rattle.writer.proofs.Laws.Writes.{reply-early, reply-start, reply-late}
 use Rattle.writer.proofs.Laws.Bodies.{passed, refuses, Ready, pass-prefix, pass-out}
 use borrow.Author.Needs.{needs}
@@ -35,9 +34,9 @@ said d =
     let e : tie.Else1 = search in
     let m : tie.After-room-reply = search in
     let a : tie.Start = search in
-    let l = q .parts-in .ensures ∙ layout-planned (a .args .r) (now (a .args .codes)) _ (s .start-reply .ensures) (g .if2 .left) _ (p .plan-of .ensures) in
-    reply-late _ _ _ _ _ _ (m .room-reply .ensures) (e .if1 .left)
-    (d .late-reply .ensures ∙ ap (λ (x : Parts). lateReply x (now (a .args .tail)) (a .args .r .«tail_bits»)) l)
+    reply-late _ _ _ _ _ (m .room-reply .ensures) (e .if1 .left) _
+    (q .parts-in .ensures ∙ layout-planned (a .args .r) (now (a .args .codes)) _ (s .start-reply .ensures) (g .if2 .left) _ (p .plan-of .ensures))
+    (d .late-reply .ensures)
 
 norms44 : (a : tie.Start) → length (a .args .r .norms) ≡ 44
 norms44 a = search needs
@@ -62,7 +61,7 @@ returns-2 c =
     let s : tie.After-start-reply = search in
     let e : tie.Else1 = search in
     let m : tie.After-room-reply = search in
-    refuses _ _ _ _ (c .refusal2 .ensures) (reply-start _ _ _ _ _ _ (m .room-reply .ensures) (e .if1 .left) (s .start-reply .ensures) (t .if2 .taken))
+    refuses _ _ _ _ (c .refusal2 .ensures) (reply-start _ _ _ _ _ (m .room-reply .ensures) (e .if1 .left) _ (s .start-reply .ensures) (t .if2 .taken))
     (t .if2 .taken)
 
 parts-in-requires : tie.Need-parts-in-requires
