@@ -1,5 +1,5 @@
 -- Demand 3, bits are shared fairly: for all 44 indices from 0 to 39, both kinds of frame, both widths and every budget to 2,560, the call answers 0 and shares
--- fairly. Fair (contest, specs/Fairness) speaks of the lengths, the starting scores of 7.5.1 and the answer alone. The proof is in proofs/Laws/Fair.
+-- fairly. Fair (contest/specs/Fairness) speaks of the lengths, the starting scores of 7.5.1 and the answer alone. The proof is in proofs/Laws/Fair.
 use mathlib.Core.Path.{_≡_}
 use mathlib.Core.Bool.{Bool}
 use mathlib.Core.List.{List}

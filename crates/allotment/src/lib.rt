@@ -4,7 +4,7 @@ use ground::replies::OUT_OF_RANGE;
 ghost use mathlib.Core.Bool.{true};
 ghost use mathlib.Core.Path.{_≡_};
 ghost use Prim.Native.Nat.{ℕ, _+_, _-_, _*_, _≤_, _<_};
-ghost use Rattle.ground.specs.Fills.{table};
+ghost use Rattle.ground.specs.ListsByRule.{table};
 ghost use Rattle.ground.specs.Sums.{nth};
 ghost use Rattle.ground.specs.Indices.{inRange};
 ghost use Rattle.allotment.specs.Allotment.{sharesOf};

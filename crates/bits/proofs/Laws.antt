@@ -2,7 +2,7 @@
 pub mod Bytes
 pub mod Codecs
 pub mod Codings
-pub mod Laid
-pub mod Numbers
-pub mod Sure
+pub mod LaidBits
+pub mod NumbersAsBits
+pub mod NeverRefused
 pub mod Views

@@ -87,13 +87,13 @@ within k c =
 
 -- ---- the value in another form, where the reading may be refused
 
-pub data Check (B : Type 0) : Type 0 where
-  fine : B → Check B
-  bad : Refusal → Check B
+pub data Verdict (B : Type 0) : Type 0 where
+  fine : B → Verdict B
+  bad : Refusal → Verdict B
 
-abbrev pub settle : {B : Type 0} → Check B → List Bool → Answer B
+abbrev pub settle : {B : Type 0} → Verdict B → List Bool → Answer B
 settle (fine b) r = got b r
 settle (bad x) r = no x
 
-abbrev pub checked : {A B : Type 0} → Codec A → (A → Check B) → (B → A) → (B → Type 0) → Codec B
+abbrev pub checked : {A B : Type 0} → Codec A → (A → Verdict B) → (B → A) → (B → Type 0) → Codec B
 checked c to from Okay = record { write = λ b. c .write (from b); read = λ l. andThen (c .read l) (λ a q. settle (to a) q); Ok = Okay }

@@ -2,7 +2,7 @@
 ghost use mathlib.Core.Path.{_≡_};
 ghost use mathlib.Core.List.{map};
 ghost use lib.ListN.{length};
-ghost use Rattle.boundary.specs.Numbers.{prefixNumbers, byteNumbers};
+ghost use Rattle.boundary.specs.PrefixStructs.{prefixNumbers, byteNumbers};
 ghost use Rattle.boundary.specs.Flags.{flagIn, flagOut, recordIn, recordOut, readingOut, choiceOut, blockOut, recordsIn};
 use ground::replies::DONE;
 use ground::replies::MARKED;

@@ -13,7 +13,7 @@ use Rattle.norms.specs.Answers.{chosen}
 use Rattle.norms.specs.declared.Choice.{Choice}
 use Rattle.allotment.specs.Allotment.{sharesOf}
 use Rattle.kinds.specs.Kinds.{bandOf}
-use Rattle.kinds.specs.Budget.{wideIn}
+use Rattle.kinds.specs.Budget.{allCompete}
 use Rattle.frame.specs.declared.Record.{Record}
 use Rattle.layout.specs.Parts.{total, budgetFor, kindsFor, startCauses, widthCause}
 
@@ -44,7 +44,7 @@ plain r =
 
 -- the rate of each of the 800 places
 unfoldable pub rateAt : Record → ℕ → ℕ
-rateAt r i = getD (sharesOf (r .transient) (wideIn (total r) (r .«flag_l»)) (r .norms) (budgetFor (plain r)) .rates) (bandOf i) 0
+rateAt r i = getD (sharesOf (r .transient) (allCompete (total r) (r .«flag_l»)) (r .norms) (budgetFor (plain r)) .rates) (bandOf i) 0
 
 unfoldable pub wordsCost : Record → List ℕ → ℕ
 wordsCost r cs = sumTo (λ i. asWord (rateAt r i) (getD cs i 0)) 800

@@ -3,11 +3,11 @@ ghost use mathlib.Core.Path.{_≡_};
 ghost use mathlib.Core.Bool.{false};
 ghost use Prim.Native.Nat.{_≤_};
 ghost use lib.ListN.{length};
-ghost use Rattle.words.specs.Spell.{spellTable};
+ghost use Rattle.words.specs.WritingTable.{writingTable};
 ghost use Rattle.choice.specs.Choice.{asWord, asFixed, plain, choiceOf};
 ghost use Rattle.choice.specs.Inner.{cheaper};
 use frame::Record;
-use ground::numbers::wide8;
+use ground::numbers::size_from_u8;
 use ground::replies::DONE;
 use ground::replies::WIDE_CODE;
 use norms::Choice;
@@ -20,7 +20,7 @@ fn no_choice(reply: u8) -> Choice
 
 // What a number costs as a word of Table 20 where the kind is 2 to 5, and nothing elsewhere.
 fn as_word(table: &[u16; 92], kind: u8, v: u16) -> usize
-    requires { ⌜ now table ≡ spellTable ⌝ }
+    requires { ⌜ now table ≡ writingTable ⌝ }
     ensures { λ n. ⌜ (n ≡ asWord kind v) × (n ≤ 16) ⌝ }
 {
     if kind < 2 {
@@ -29,7 +29,7 @@ fn as_word(table: &[u16; 92], kind: u8, v: u16) -> usize
     if 5 < kind {
         return 0;
     }
-    words::bits_in(table, kind + words::CODE_WORDS, v)
+    words::word_bits_by(table, kind + words::CODE_WORDS, v)
 }
 
 // What a fixed code costs there.
@@ -42,12 +42,12 @@ fn as_fixed(kind: u8) -> usize
     if 5 < kind {
         return 0;
     }
-    wide8(kind)
+    size_from_u8(kind)
 }
 
 // Whether words cost less than fixed codes.
 fn words_cheaper(table: &[u16; 92], kinds: &[u8], numbers: &[u16]) -> bool
-    requires { ⌜ (now table ≡ spellTable) × (length (now kinds) ≡ length (now numbers)) × (length (now kinds) ≤ 800) ⌝ }
+    requires { ⌜ (now table ≡ writingTable) × (length (now kinds) ≡ length (now numbers)) × (length (now kinds) ≤ 800) ⌝ }
     ensures { λ b. ⌜ b ≡ cheaper (now (kinds .entry)) (now (numbers .entry)) ⌝ }
 {
     let mut words: usize = 0;
@@ -93,7 +93,7 @@ pub fn choose_flag_c(r: Record, codes: &[u16]) -> Choice
     if !layout::all_fit(&kinds, numbers) {
         return no_choice(WIDE_CODE);
     }
-    let table = words::all_words();
+    let table = words::writing_table();
     Choice {
         reply: DONE,
         flag: words_cheaper(&table, &kinds, numbers),

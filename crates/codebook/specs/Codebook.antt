@@ -6,7 +6,7 @@ use Prim.Native.Nat.{ℕ, zero, suc, _-_}
 use lib.Dec.{eqb, ltb}
 use lib.ListN.{length, getD, take, drop}
 use lib.IntN.{ℤ, pos}
-use Rattle.ground.specs.Fills.{from, table}
+use Rattle.ground.specs.ListsByRule.{from, table}
 use Rattle.ground.specs.Replies.{done, outOfRange}
 use Rattle.points.specs.Answers.{eqZ, noPoint}
 use Rattle.points.specs.declared.Point.{Point}

@@ -8,7 +8,7 @@ use Prim.Native.Nat.{ℕ, zero, suc, _*_, _^_, _<_, _≤_}
 use lib.Dec.{eqb}
 use lib.ListN.{getD}
 use lib.IntN.{ℤ, pos, negsuc}
-use Rattle.lattice.specs.Lattice.{sumTo}
+use Rattle.ground.specs.Sums.{sumTo}
 use Rattle.codebook.specs.Table18.{+0, +1, +2, -1, -2}
 use Rattle.codebook.specs.Codebook.{row}
 

@@ -2,4 +2,4 @@ pub mod Bands
 pub mod Rounds
 pub mod Grants
 pub mod Fairness
-pub mod Raised
+pub mod RaisedContest

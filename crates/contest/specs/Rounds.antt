@@ -6,7 +6,7 @@ use lib.Dec.{leb, ltb}
 use lib.IntN.{ℤ, pos, _-ℤ_}
 use lib.ListN.{getD, set}
 use lib.Signed.{ltZ}
-use Rattle.ground.specs.Fills.{table}
+use Rattle.ground.specs.ListsByRule.{table}
 
 -- a band in the contest: its length, its score, its rate so far, and whether it still competes
 pub record Band : Type 0 where
@@ -65,7 +65,7 @@ contest (suc n) g = elim (ahead g .competes) [ true ↦ contest n (round g) | fa
 unfoldable pub begin : (ℕ → ℕ) → (ℕ → ℤ) → (ℕ → Bool) → ℕ → Game
 begin size score competes budget = record { bands = table 44 (λ p. record { size = size p; score = score p; rate = 0; competes = competes p }); left = budget }
 
--- the contest to its end: each of 44 bands takes at most nine rounds, so 396 are enough (proofs/Promise, ended)
+-- the contest to its end: each of 44 bands takes at most nine rounds, so 396 are enough (proofs/Laws/SharesFairly, ended)
 unfoldable pub played : (ℕ → ℕ) → (ℕ → ℤ) → (ℕ → Bool) → ℕ → Game
 played size score competes budget = contest 396 (begin size score competes budget)
 

@@ -4,13 +4,13 @@ ghost use mathlib.Core.List.{_++_};
 ghost use Prim.Native.Nat.{_+_, _≤_, _<_};
 ghost use lib.ListN.{length};
 ghost use Rattle.decimals.specs.Decimals.{digits, decimal};
-ghost use Rattle.ground.specs.Laying.{Laid};
+ghost use Rattle.ground.specs.Laying.{TextLaid};
 use ground::bytes::put;
 
 // Puts the last k digits of a number.
 pub fn put_digits(out: &mut [u8], at: usize, n: usize, k: usize) -> usize
     requires { ⌜ at + k ≤ length (now out) ⌝ }
-    ensures { λ r. ⌜ Laid (now (out .entry)) at (digits k n) (now (out .exit)) r ⌝ }
+    ensures { λ r. ⌜ TextLaid (now (out .entry)) at (digits k n) (now (out .exit)) r ⌝ }
 {
     let mut i = k;
     let mut rest = n;
@@ -45,7 +45,7 @@ fn places(n: usize) -> usize
 // Puts a label and behind it a number, without zeros in front.
 pub fn put_number(out: &mut [u8], at: usize, label: &[u8], n: usize) -> usize
     requires { ⌜ (n < 100000) × (at + length (now label ++ decimal n) ≤ length (now out)) ⌝ }
-    ensures { λ r. ⌜ Laid (now (out .entry)) at (now (label .entry) ++ decimal n) (now (out .exit)) r ⌝ }
+    ensures { λ r. ⌜ TextLaid (now (out .entry)) at (now (label .entry) ++ decimal n) (now (out .exit)) r ⌝ }
 {
     let behind = put(out, at, label);
     put_digits(out, behind, n, places(n))

@@ -9,7 +9,7 @@ use Rattle.bits.specs.Codings.{fixed}
 use Rattle.bits.specs.Codecs.{Codec, coded, words, raw, within, pair, writeAll}
 use Rattle.words.specs.Tables.{coding}
 use Rattle.norms.specs.Part.{normPart, normBits}
-use Rattle.kinds.specs.Budget.{spare, wideIn, kindsAt}
+use Rattle.kinds.specs.Budget.{noiseBits, allCompete, kindsAt}
 
 -- ---- the parts
 
@@ -22,6 +22,9 @@ Rest = List ℕ × Ending
 
 abbrev pub Frame : Type 0
 Frame = List Bool × (List ℕ × Rest)
+
+abbrev pub madeFrame : List Bool → List ℕ → List ℕ → ℕ → List Bool → Frame
+madeFrame flags norms codes noise tail = (flags, (norms, (codes, (noise, tail))))
 
 abbrev pub flagsIn : Frame → List Bool
 flagsIn x = x .0
@@ -56,13 +59,13 @@ flagC flags = getD flags 3 false
 
 -- Ψ = frame bits − 4 − norm bits − 2 if stationary, after n norm bits
 abbrev pub budgetAfter : ℕ → Bool → ℕ → ℕ
-budgetAfter total transient n = total - (4 + n) - spare transient
+budgetAfter total transient n = total - (4 + n) - noiseBits transient
 
 unfoldable pub budgetOf : ℕ → List Bool → List ℕ → ℕ
 budgetOf total flags norms = budgetAfter total (isTransient flags) (length (normBits (isTransient flags) (flagN flags) norms))
 
 unfoldable pub kindsOf : ℕ → List Bool → List ℕ → List ℕ
-kindsOf total flags norms = kindsAt (isTransient flags) (wideIn total (flagL flags)) (flagC flags) norms (budgetOf total flags norms)
+kindsOf total flags norms = kindsAt (isTransient flags) (allCompete total (flagL flags)) (flagC flags) norms (budgetOf total flags norms)
 
 -- the bits of the codes
 unfoldable pub codeBits : ℕ → List Bool → List ℕ → List ℕ → List Bool
@@ -79,11 +82,11 @@ codesPart total flags norms = words (map coding (kindsOf total flags norms))
 
 -- the noise, then the tail
 abbrev pub endingPart : ℕ → List Bool → List ℕ → List ℕ → Codec Ending
-endingPart total flags norms codes = pair (coded (fixed (spare (isTransient flags)))) (λ noise. raw (tailLeft total flags norms codes))
+endingPart total flags norms codes = pair (coded (fixed (noiseBits (isTransient flags)))) (λ noise. raw (tailLeft total flags norms codes))
 
 -- the codes leave the bits of the noise
 abbrev pub restPart : ℕ → List Bool → List ℕ → Codec Rest
-restPart total flags norms = pair (within (spare (isTransient flags)) (codesPart total flags norms)) (endingPart total flags norms)
+restPart total flags norms = pair (within (noiseBits (isTransient flags)) (codesPart total flags norms)) (endingPart total flags norms)
 
 abbrev pub normsAndRest : ℕ → List Bool → Codec (List ℕ × Rest)
 normsAndRest total flags = pair (normPart (isTransient flags) (flagN flags)) (restPart total flags)

@@ -8,7 +8,7 @@ ghost use Rattle.prefix.specs.Sizes.{modeBytes};
 ghost use Rattle.prefix.specs.Prefix.{prefixOf};
 ghost use Rattle.kinds.specs.Kinds.{kinds};
 ghost use Rattle.frame.specs.Answers.{flagsOf, stoppedAt, started, readBody, readAnswer, readingOf, codesAfter, tailAfter};
-ghost use Rattle.frame.specs.Inner.{Opened, BodyTold, FrameTold, madeReading};
+ghost use Rattle.frame.specs.Inner.{NormsRead, BodyRead, FrameRead, madeReading};
 use ground::replies::CUT;
 use ground::replies::DONE;
 use ground::replies::MARKED;
@@ -126,12 +126,12 @@ fn read_rest(
     at: usize,
     found: &mut [u16],
 ) -> Reading
-    requires { ⌜ Opened (now s) norms at × (flags ≡ flagsOf (view (now s) 0 4)) ⌝ }
+    requires { ⌜ NormsRead (now s) norms at × (flags ≡ flagsOf (view (now s) 0 4)) ⌝ }
     requires { ⌜ (length (now s) ≤ 320) × (length (now s) ≡ modeBytes mode) × (length (now found) ≡ 800) ⌝ }
-    ensures { λ r. ⌜ BodyTold (now (s .entry)) (readBody mode (now (s .entry))) r (now (found .exit)) ⌝ }
+    ensures { λ r. ⌜ BodyRead (now (s .entry)) (readBody mode (now (s .entry))) r (now (found .exit)) ⌝ }
 {
     let end = s.len() * 8;
-    let k = kinds::spare_of(flags.transient);
+    let k = kinds::noise_bits(flags.transient);
     let kinds = kinds::kinds_for(flags, norms, at, end);
     let run = runs::read_words(s, at, end - k, &kinds, found);
     let Run::Done(next) = run else {
@@ -151,7 +151,7 @@ fn read_rest(
 // A body of a mode.
 fn read_body(s: &[u8], mode: u8, found: &mut [u16]) -> Reading
     requires { ⌜ (80 ≤ length (now s)) × (length (now s) ≤ 320) × (length (now s) ≡ modeBytes mode) × (length (now found) ≡ 800) ⌝ }
-    ensures { λ r. ⌜ BodyTold (now (s .entry)) (readBody mode (now (s .entry))) r (now (found .exit)) ⌝ }
+    ensures { λ r. ⌜ BodyRead (now (s .entry)) (readBody mode (now (s .entry))) r (now (found .exit)) ⌝ }
 {
     let flags = read_flags(s);
     let part = norms::read_norms(s, 4, s.len() * 8, flags.transient, flags.n);
@@ -166,7 +166,7 @@ fn read_body(s: &[u8], mode: u8, found: &mut [u16]) -> Reading
 // A frame with data, as its prefix says.
 fn read_data(src: &[u8], field: Length, found: &mut [u16]) -> Reading
     requires { ⌜ (Prefix.Data field ≡ prefixOf (now src)) × (length (now found) ≡ 800) ⌝ }
-    ensures { λ r. ⌜ FrameTold (now (src .entry)) (started (Prefix.Data field) (now (src .entry))) r (now (found .exit)) ⌝ }
+    ensures { λ r. ⌜ FrameRead (now (src .entry)) (started (Prefix.Data field) (now (src .entry))) r (now (found .exit)) ⌝ }
 {
     let n = field.bytes() as usize;
     if src.len() <= n {
@@ -184,7 +184,7 @@ fn read_data(src: &[u8], field: Length, found: &mut [u16]) -> Reading
 // The frame at the start of a slice, its codes into `found`: 1, 2, 3, 14, 4, 5, then 6 or 7, first met.
 fn read_frame(src: &[u8], found: &mut [u16]) -> Reading
     requires { ⌜ length (now found) ≡ 800 ⌝ }
-    ensures { λ r. ⌜ FrameTold (now (src .entry)) (started (prefixOf (now (src .entry))) (now (src .entry))) r (now (found .exit)) ⌝ }
+    ensures { λ r. ⌜ FrameRead (now (src .entry)) (started (prefixOf (now (src .entry))) (now (src .entry))) r (now (found .exit)) ⌝ }
 {
     let p = prefix::read_prefix(src);
     match p {

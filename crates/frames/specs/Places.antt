@@ -3,7 +3,7 @@
 use mathlib.Core.List.{List, [], _∷_, _++_}
 use Prim.Native.Nat.{ℕ, zero, suc, _+_, min}
 use lib.ListN.{length, take, drop}
-use Rattle.ground.specs.Fills.{table}
+use Rattle.ground.specs.ListsByRule.{table}
 use Rattle.prefix.specs.Sizes.{lengthBytes}
 use Rattle.prefix.specs.Prefix.{prefixOf, zeroR}
 use Rattle.prefix.specs.declared.Prefix.{Prefix}
@@ -39,9 +39,9 @@ unfoldable pub framesOf : List ℕ → List (List ℕ)
 framesOf s = table (walk (length s) s .count) (frameAt s)
 
 -- frames one behind the other
-unfoldable pub flat : List (List ℕ) → List ℕ
-flat [] = []
-flat (f ∷ fs) = f ++ flat fs
+unfoldable pub concatenated : List (List ℕ) → List ℕ
+concatenated [] = []
+concatenated (f ∷ fs) = f ++ concatenated fs
 
 -- a frame with R zero in its prefix byte
 abbrev pub zeroed : List ℕ → List ℕ

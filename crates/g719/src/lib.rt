@@ -16,7 +16,7 @@ ghost use Rattle.choice.specs.Choice.{choiceOf as flagC};
 ghost use Rattle.recording.specs.Walk.{checkOf};
 ghost use Rattle.channels.specs.Copies.{checkAnswer, extractAnswer, extractAfter};
 ghost use Rattle.joining.specs.Joining.{joinAnswer, joinAfter};
-ghost use Rattle.boundary.specs.Numbers.{prefixNumbers, byteNumbers};
+ghost use Rattle.boundary.specs.PrefixStructs.{prefixNumbers, byteNumbers};
 ghost use Rattle.boundary.specs.Flags.{flagIn, recordIn, readingOut, choiceOut, blockOut, recordsIn};
 ghost use Rattle.block_reader.specs.Reading as blockRead;
 ghost use Rattle.block_writer.specs.Writing as blockWritten;

@@ -12,6 +12,6 @@ laidText s at t = sets s at t
 
 -- ---- what putting a text does: the bytes at exit and the place after the text
 
-pub record Laid (s : List ℕ) (at : ℕ) (t s′ : List ℕ) (next : ℕ) : Type 0 where
+pub record TextLaid (s : List ℕ) (at : ℕ) (t s′ : List ℕ) (next : ℕ) : Type 0 where
   pub after : next ≡ at + length t
   pub bytes : s′ ≡ laidText s at t

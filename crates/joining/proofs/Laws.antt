@@ -1,4 +1,4 @@
 -- The laws of this crate, for its own proofs and for the crates above.
 pub mod Channels
-pub mod JoinTold
+pub mod JoinedRecordings
 pub mod Joining

@@ -73,7 +73,7 @@ abbrev pub joinAfter : List ℕ → List ℕ → List ℕ → List ℕ
 joinAfter src lengths out = copiedTo out (joinAnswer src lengths (length out)) (joinedOf src lengths)
 
 -- the recordings lie in the source, and are at most eight
-pub record Lying (src lengths : List ℕ) : Type 0 where
+pub record InSource (src lengths : List ℕ) : Type 0 where
   pub few : length lengths ≤ 8
   pub inside : startOf lengths (length lengths) ≤ length src
 

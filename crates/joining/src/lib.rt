@@ -5,17 +5,17 @@ ghost use mathlib.Core.List.{List, _++_};
 ghost use Prim.Native.Nat.{ℕ, _+_, _≤_, _<_};
 ghost use lib.Dec.{eqb};
 ghost use lib.ListN.{length, drop};
-ghost use Rattle.ground.specs.Laying.{Laid};
+ghost use Rattle.ground.specs.Laying.{TextLaid};
 ghost use Rattle.recording.specs.Walk.{mostFrames};
-ghost use Rattle.joining.specs.Joining.{startOf, recordingAt, ownCheck, blockOf, joined, checkAll, joinAnswer, joinAfter, Lying};
-ghost use Rattle.joining.specs.Inner.{placesAt, Standing};
+ghost use Rattle.joining.specs.Joining.{startOf, recordingAt, ownCheck, blockOf, joined, checkAll, joinAnswer, joinAfter, InSource};
+ghost use Rattle.joining.specs.Inner.{placesAt, BlocksLaid};
 use channels::Copied;
 use ground::replies::DONE;
 use ground::replies::SHORT_ROOM;
 use ground::replies::WRONG_CHANNELS;
 
 // Where the joining stands: the blocks laid, where the next frame of each recording begins, and where the output goes on.
-pub struct Turn {
+pub struct Progress {
     pub block: u32,
     pub places: [usize; 8],
     pub next: usize,
@@ -36,7 +36,7 @@ fn start_of(lengths: &[u32], c: usize) -> usize
 }
 
 // Nothing laid yet: each recording goes on where it begins.
-fn first_turn(lengths: &[u32]) -> Turn
+fn first_progress(lengths: &[u32]) -> Progress
     requires { ⌜ length (now lengths) ≤ 8 ⌝ }
     ensures { λ t. ⌜ (t .block ≡ 0) × (t .next ≡ 0) × ((src : List ℕ) → t .places ≡ placesAt src (now (lengths .entry)) 0) ⌝ }
 {
@@ -46,7 +46,7 @@ fn first_turn(lengths: &[u32]) -> Turn
         places[c] = start_of(lengths, c);
         c += 1;
     }
-    Turn {
+    Progress {
         block: 0,
         places,
         next: 0,
@@ -72,7 +72,7 @@ fn still_equal(equal: bool, count: u32, first: u32) -> bool
 
 // Each recording's own check save 11, in order, then 17 for unequal counts; else 0 with the common count.
 fn check_all(src: &[u8], lengths: &[u32]) -> Copied
-    requires { ⌜ Lying (now src) (now lengths) × (1 ≤ length (now lengths)) ⌝ }
+    requires { ⌜ InSource (now src) (now lengths) × (1 ≤ length (now lengths)) ⌝ }
     ensures { λ r. ⌜ r ≡ checkAll (ownCheck (now (src .entry)) (now (lengths .entry))) (length (now (lengths .entry))) ⌝ }
 {
     let mut first: u32 = 0;
@@ -104,13 +104,13 @@ fn check_all(src: &[u8], lengths: &[u32]) -> Copied
 }
 
 // Lays the next block: the next frame of each recording, in order.
-fn join_block(src: &[u8], lengths: &[u32], turn: Turn, out: &mut [u8]) -> Turn
-    requires { ⌜ Standing (now src) (now lengths) (now out) turn × (turn .block < mostFrames) ⌝ }
-    ensures { λ t. ⌜ (t .block ≡ turn .block + 1) × (t .places ≡ placesAt (now (src .entry)) (now (lengths .entry)) (turn .block + 1))
-        × Laid (now (out .entry)) (turn .next) (blockOf (length (now (lengths .entry))) (recordingAt (now (src .entry)) (now (lengths .entry))) (turn .block)) (now (out .exit)) (t .next) ⌝ }
+fn join_block(src: &[u8], lengths: &[u32], progress: Progress, out: &mut [u8]) -> Progress
+    requires { ⌜ BlocksLaid (now src) (now lengths) (now out) progress × (progress .block < mostFrames) ⌝ }
+    ensures { λ t. ⌜ (t .block ≡ progress .block + 1) × (t .places ≡ placesAt (now (src .entry)) (now (lengths .entry)) (progress .block + 1))
+        × TextLaid (now (out .entry)) (progress .next) (blockOf (length (now (lengths .entry))) (recordingAt (now (src .entry)) (now (lengths .entry))) (progress .block)) (now (out .exit)) (t .next) ⌝ }
 {
-    let mut places = turn.places;
-    let mut to = turn.next;
+    let mut places = progress.places;
+    let mut to = progress.next;
     let mut c: usize = 0;
     while c < lengths.len() {
         let end = start_of(lengths, c + 1);
@@ -121,8 +121,8 @@ fn join_block(src: &[u8], lengths: &[u32], turn: Turn, out: &mut [u8]) -> Turn
         places[c] = e;
         c += 1;
     }
-    Turn {
-        block: turn.block + 1,
+    Progress {
+        block: progress.block + 1,
         places,
         next: to,
     }
@@ -130,13 +130,13 @@ fn join_block(src: &[u8], lengths: &[u32], turn: Turn, out: &mut [u8]) -> Turn
 
 // Lays so many blocks at the front of the output.
 fn join_blocks(src: &[u8], lengths: &[u32], blocks: u32, out: &mut [u8])
-    requires { ⌜ Lying (now src) (now lengths) × (blocks ≤ mostFrames) × (length (joined (length (now lengths)) blocks (recordingAt (now src) (now lengths))) ≤ length (now out)) ⌝ }
+    requires { ⌜ InSource (now src) (now lengths) × (blocks ≤ mostFrames) × (length (joined (length (now lengths)) blocks (recordingAt (now src) (now lengths))) ≤ length (now out)) ⌝ }
     ensures { λ _. ⌜ now (out .exit) ≡ joined (length (now (lengths .entry))) blocks (recordingAt (now (src .entry)) (now (lengths .entry)))
         ++ drop (length (joined (length (now (lengths .entry))) blocks (recordingAt (now (src .entry)) (now (lengths .entry))))) (now (out .entry)) ⌝ }
 {
-    let mut turn = first_turn(lengths);
-    while turn.block < blocks {
-        turn = join_block(src, lengths, turn, out);
+    let mut progress = first_progress(lengths);
+    while progress.block < blocks {
+        progress = join_block(src, lengths, progress, out);
     }
 }
 

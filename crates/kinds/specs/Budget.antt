@@ -8,12 +8,12 @@ use Rattle.allotment.specs.Allotment.{sharesOf}
 use Rattle.kinds.specs.Kinds.{kinds}
 
 -- the noise bits
-unfoldable pub spare : Bool → ℕ
-spare transient = cond transient 0 2
+unfoldable pub noiseBits : Bool → ℕ
+noiseBits transient = cond transient 0 2
 
 -- All 44 compete; at 80 bytes with FlagL 0 only bands 0–35
-unfoldable pub wideIn : ℕ → Bool → Bool
-wideIn total l = cond (eqb total 640) l true
+unfoldable pub allCompete : ℕ → Bool → Bool
+allCompete total l = cond (eqb total 640) l true
 
 -- the kinds of the 800 places, from flags, norms and budget
 unfoldable pub kindsAt : Bool → Bool → Bool → List ℕ → ℕ → List ℕ

@@ -5,7 +5,7 @@ use mathlib.Core.List.{List}
 use Prim.Native.Nat.{ℕ, _+_, _%_}
 use lib.Dec.{leb, eqb}
 use lib.ListN.{getD, replicate}
-use Rattle.ground.specs.Fills.{table}
+use Rattle.ground.specs.ListsByRule.{table}
 use Rattle.ground.specs.Runs.{runs}
 use Rattle.words.specs.Tables.{codeWords}
 use Rattle.contest.specs.Bands.{lengthOf}

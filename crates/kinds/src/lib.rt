@@ -3,7 +3,7 @@ ghost use mathlib.Core.Path.{_≡_};
 ghost use Prim.Native.Nat.{_+_, _-_, _<_};
 ghost use Rattle.allotment.specs.Allotment.{sharesOf};
 ghost use Rattle.kinds.specs.Kinds.{bandOf, kindOf, kinds};
-ghost use Rattle.kinds.specs.Budget.{spare, wideIn, kindsAt};
+ghost use Rattle.kinds.specs.Budget.{noiseBits, allCompete, kindsAt};
 use ground::numbers::minus;
 
 pub struct Flags {
@@ -73,33 +73,33 @@ pub fn all_kinds(flag_c: bool, rates: [u8; 44]) -> [u8; 800]
 }
 
 // The noise bits: 2 if the frame is stationary.
-pub fn spare_of(transient: bool) -> usize
-    ensures { λ r. ⌜ r ≡ spare transient ⌝ }
+pub fn noise_bits(transient: bool) -> usize
+    ensures { λ r. ⌜ r ≡ noiseBits transient ⌝ }
 {
     if transient { 0 } else { 2 }
 }
 
 // Whether bands 36 to 43 compete: FlagL acts at 80 bytes alone.
-fn wide_of(end: usize, flag_l: bool) -> bool
-    ensures { λ r. ⌜ r ≡ wideIn end «flag_l» ⌝ }
+fn all_compete(end: usize, flag_l: bool) -> bool
+    ensures { λ r. ⌜ r ≡ allCompete end «flag_l» ⌝ }
 {
     if end == 640 { flag_l } else { true }
 }
 
 // The rates of the 44 bands in a body of `end` bits, from flags, norms and budget.
 pub fn rates_for(flags: Flags, norms: [u8; 44], budget: u32, end: usize) -> [u8; 44]
-    ensures { λ r. ⌜ r ≡ sharesOf (flags .transient) (wideIn end (flags .l)) norms budget .rates ⌝ }
+    ensures { λ r. ⌜ r ≡ sharesOf (flags .transient) (allCompete end (flags .l)) norms budget .rates ⌝ }
 {
-    let shares = allotment::allot(flags.transient, wide_of(end, flags.l), norms, budget);
+    let shares = allotment::allot(flags.transient, all_compete(end, flags.l), norms, budget);
     shares.rates
 }
 
 // The kinds of the 800 places, from flags and norms whose bits end at a place.
 pub fn kinds_for(flags: Flags, norms: [u8; 44], at: usize, end: usize) -> [u8; 800]
     requires { ⌜ end < 4294967296 ⌝ }
-    ensures { λ r. ⌜ r ≡ kindsAt (flags .transient) (wideIn end (flags .l)) (flags .c) norms (end - at - spare (flags .transient)) ⌝ }
+    ensures { λ r. ⌜ r ≡ kindsAt (flags .transient) (allCompete end (flags .l)) (flags .c) norms (end - at - noiseBits (flags .transient)) ⌝ }
 {
-    let budget = minus(minus(end, at), spare_of(flags.transient));
+    let budget = minus(minus(end, at), noise_bits(flags.transient));
     let rates = rates_for(flags, norms, budget as u32, end);
     all_kinds(flags.c, rates)
 }

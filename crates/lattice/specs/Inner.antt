@@ -4,7 +4,7 @@ use mathlib.Core.Path.{_≡_}
 use mathlib.Core.List.{List}
 use Prim.Native.Nat.{ℕ, _+_, _-_, _%_, _^_, _≤_, _<_}
 use lib.ListN.{length, getD}
-use Rattle.ground.specs.Whole.{Is}
+use Rattle.ground.specs.Differences.{Is}
 use Rattle.lattice.specs.Lattice.{x, error}
 
 pub record Power (rate r : ℕ) : Type 0 where

@@ -9,14 +9,11 @@ use lib.Dec.{ltb, eqb}
 use lib.ListN.{length, getD}
 use lib.IntN.{ℤ, pos, natAbs, sucℤ, predℤ, _+ℤ_, _-ℤ_, _*ℤ_}
 use lib.Signed.{shrZ, ltZ}
-use Rattle.ground.specs.Fills.{table}
-use Rattle.ground.specs.Whole.{modZ}
+use Rattle.ground.specs.ListsByRule.{table}
+use Rattle.ground.specs.Differences.{modZ}
+use Rattle.ground.specs.Sums.{sumTo}
 
--- f 0 + … + f (n − 1)
-abbrev pub sumTo : (ℕ → ℕ) → ℕ → ℕ
-sumTo f zero = 0
-sumTo f (suc n) = sumTo f n + f n
-
+-- f 0 + … + f (n − 1), of whole numbers
 abbrev pub sumZ : (ℕ → ℤ) → ℕ → ℤ
 sumZ f zero = pos 0
 sumZ f (suc n) = sumZ f n +ℤ f n

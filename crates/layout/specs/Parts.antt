@@ -13,7 +13,7 @@ use Rattle.prefix.specs.Sizes.{modeBytes}
 use Rattle.norms.specs.Answers.{normCauses}
 use Rattle.allotment.specs.Allotment.{sharesOf}
 use Rattle.kinds.specs.Kinds.{kinds}
-use Rattle.kinds.specs.Budget.{wideIn}
+use Rattle.kinds.specs.Budget.{allCompete}
 use Rattle.frame.specs.Layout.{budgetOf, kindsOf}
 use Rattle.frame.specs.declared.Record.{Record}
 use Rattle.layout.specs.Fits.{fits}
@@ -32,7 +32,7 @@ abbrev pub budgetFor : Record → ℕ
 budgetFor r = budgetOf (total r) (flagBits r) (r .norms)
 
 abbrev pub ratesFor : Record → List ℕ
-ratesFor r = sharesOf (r .transient) (wideIn (total r) (r .«flag_l»)) (r .norms) (budgetFor r) .rates
+ratesFor r = sharesOf (r .transient) (allCompete (total r) (r .«flag_l»)) (r .norms) (budgetFor r) .rates
 
 abbrev pub kindsFor : Record → List ℕ
 kindsFor r = kindsOf (total r) (flagBits r) (r .norms)

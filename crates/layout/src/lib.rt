@@ -10,7 +10,7 @@ ghost use Rattle.layout.specs.Parts.{flagBits, planOf, startCauses, noPa
 ghost use Rattle.frame.specs.Answers.{flagsOf};
 use frame::Record;
 use ground::numbers::minus;
-use ground::numbers::wide16;
+use ground::numbers::size_from_u16;
 use ground::replies::DONE;
 use ground::replies::OUT_OF_RANGE;
 use ground::replies::PAST_BUDGET;
@@ -81,9 +81,9 @@ pub fn plan_of(r: Record) -> Plan
     ensures { λ p. ⌜ p ≡ planOf r ⌝ }
 {
     let norms = r.norms;
-    let end = wide16(Mode(r.mode).bytes()) * 8;
+    let end = size_from_u16(Mode(r.mode).bytes()) * 8;
     let at = 4 + norms::norm_bits(r.transient, r.flag_n, norms);
-    let budget = minus(minus(end, at), kinds::spare_of(r.transient));
+    let budget = minus(minus(end, at), kinds::noise_bits(r.transient));
     let rates = kinds::rates_for(flags_of(r), norms, budget as u32, end);
     let kinds = kinds::all_kinds(r.flag_c, rates);
     Plan {

@@ -5,8 +5,8 @@ use mathlib.Core.Bool.{Bool}
 use mathlib.Core.List.{List, [], _∷_}
 use Prim.Native.Nat.{ℕ, zero, suc, _+_, _-_, min}
 use lib.ListN.{getD, set}
-use Rattle.ground.specs.Fills.{table}
-use Rattle.order.specs.Order.{sent, banded}
+use Rattle.ground.specs.ListsByRule.{table}
+use Rattle.order.specs.SentOrder.{sent, banded}
 
 -- ---- definitions
 

@@ -1,10 +1,10 @@
 -- The laws of this crate, for its own proofs and for the crates above.
-pub mod Finish
-pub mod Flat
-pub mod Jump
-pub mod Levels
-pub mod Order
+pub mod LastOffers
+pub mod LoopTurns
+pub mod GrantedLevel
+pub mod HighestBid
+pub mod OfferOrder
 pub mod Serving
-pub mod State
-pub mod Thin
-pub mod Whole
+pub mod GameAsLists
+pub mod UnfitBands
+pub mod ContestEnd

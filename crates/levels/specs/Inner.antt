@@ -6,10 +6,10 @@ use mathlib.Core.List.{List}
 use Prim.Native.Nat.{ℕ, _+_, _-_, _*_, _<_, zero, suc, _%_, _/_, max, min}
 use lib.Dec.{ltb, leb}
 use lib.ListN.{length}
-use Rattle.ground.specs.Fills.{table}
+use Rattle.ground.specs.ListsByRule.{table}
 use Rattle.ground.specs.Sums.{nth, sumTo}
 use Rattle.contest.specs.Bands.{lengthOf, competing}
-use Rattle.contest.specs.Raised.{Band, Game, at, Sound, contest}
+use Rattle.contest.specs.RaisedContest.{Band, Game, at, Sound, contest}
 
 -- where the next offer of the band p stands among all offers, by score, then by band; 0 for a band that is out. A step takes 2,048 off.
 unfoldable pub spot : ℕ → Band → ℕ
@@ -24,7 +24,7 @@ unfoldable pub state : Game → List ℕ → ℕ → Game
 state g rates left = record { bands = table 44 (λ p. stepped (nth rates p) (at (g .bands) p)); left = left }
 
 -- a game at its start, and the list of its bands' spots
-pub record Flat (g : Game) (keys : List ℕ) : Type 0 where
+pub record AtStart (g : Game) (keys : List ℕ) : Type 0 where
   pub all : length (g .bands) ≡ 44
   pub sound : Sound g
   pub unserved : (p : ℕ) → p < 44 → at (g .bands) p .rate ≡ 0
@@ -62,7 +62,7 @@ Keyed keys = (p : ℕ) → p < 44 → 0 < nth keys p → nth keys p % 64 ≡ 63 
 pub record Finished (keys rates : List ℕ) (left : ℕ) (rates′ : List ℕ) (left′ : ℕ) : Type 0 where
   pub whole : length rates′ ≡ 44
   pub none : (p : ℕ) → p < 44 → bidAt keys rates′ left′ p ≡ 0
-  pub alike : (g : Game) → Flat g keys → contest 396 (state g rates left) ≡ contest 396 (state g rates′ left′)
+  pub alike : (g : Game) → AtStart g keys → contest 396 (state g rates left) ≡ contest 396 (state g rates′ left′)
 
 -- the spot of the band p at the start, from its raised score
 unfoldable pub keyOf : Bool → ℕ → ℕ → ℕ

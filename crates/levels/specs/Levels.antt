@@ -3,10 +3,10 @@
 use mathlib.Core.Bool.{Bool}
 use mathlib.Core.List.{List}
 use Prim.Native.Nat.{ℕ, _<_, _≤_}
-use Rattle.ground.specs.Fills.{table}
+use Rattle.ground.specs.ListsByRule.{table}
 use Rattle.ground.specs.Sums.{nth}
 use Rattle.contest.specs.Bands.{lengthOf, competing}
-use Rattle.contest.specs.Raised.{Game, at, contest, begin}
+use Rattle.contest.specs.RaisedContest.{Game, at, contest, begin}
 use Rattle.levels.specs.declared.Ends.{Ends}
 
 -- raised scores that leave room for nine steps

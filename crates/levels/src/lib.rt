@@ -3,7 +3,7 @@
 ghost use lib.ListN.{length};
 ghost use mathlib.Core.Path.{_≡_};
 ghost use Prim.Native.Nat.{ℕ, _+_, _-_, _*_, _/_, _≤_, _<_};
-ghost use Rattle.ground.specs.Fills.{table};
+ghost use Rattle.ground.specs.ListsByRule.{table};
 ghost use Rattle.ground.specs.Sums.{nth};
 ghost use Rattle.contest.specs.Bands.{lengthOf, competing};
 ghost use Rattle.levels.specs.Inner.{climb, bill, bid, bidAt, highest, Keyed, Finished, keyOf, keysOf};

@@ -3,14 +3,14 @@ ghost use mathlib.Core.Path.{_≡_};
 ghost use Prim.Native.Nat.{_+_, _≤_, _<_};
 ghost use lib.ListN.{length};
 ghost use Rattle.listing.specs.Text.{frameLine, totalLine};
-ghost use Rattle.ground.specs.Laying.{Laid};
+ghost use Rattle.ground.specs.Laying.{TextLaid};
 ghost use Rattle.listing.specs.Listing.{mostBytes, room, listedIn, outAfter};
 ghost use Rattle.listing.specs.Inner.{stepLine, madeLines, Complete};
 ghost use Rattle.recording.specs.Walk.{madeCheck};
 use decimals::put_digits;
 use decimals::put_number;
 use ground::bytes::put;
-use ground::numbers::wide8;
+use ground::numbers::size_from_u8;
 use ground::replies::DONE;
 use ground::replies::NO_DATA;
 use ground::replies::SHORT_ROOM;
@@ -51,10 +51,10 @@ fn made_lines(reply: u8, count: u32, place: usize, next: usize) -> Lines
 // Puts a frame's line: its number, its reply and its body bytes.
 fn put_line(out: &mut [u8], at: usize, number: usize, reply: u8, bytes: usize) -> usize
     requires { ⌜ (bytes < 100000) × (at + length (frameLine number reply bytes) ≤ length (now out)) ⌝ }
-    ensures { λ r. ⌜ Laid (now (out .entry)) at (frameLine number reply bytes) (now (out .exit)) r ⌝ }
+    ensures { λ r. ⌜ TextLaid (now (out .entry)) at (frameLine number reply bytes) (now (out .exit)) r ⌝ }
 {
     let a = put_digits(out, at, number, 4);
-    let b = put_number(out, a, b" ", wide8(reply));
+    let b = put_number(out, a, b" ", size_from_u8(reply));
     let c = put_number(out, b, b" ", bytes);
     put(out, c, b"\n")
 }
@@ -62,10 +62,10 @@ fn put_line(out: &mut [u8], at: usize, number: usize, reply: u8, bytes: usize) -
 // Puts the total line: how many sound frames, the reply and its place.
 fn put_total(out: &mut [u8], at: usize, count: usize, reply: u8, place: usize) -> usize
     requires { ⌜ (count < 100000) × (place < 100000) × (at + length (totalLine count reply place) ≤ length (now out)) ⌝ }
-    ensures { λ r. ⌜ Laid (now (out .entry)) at (totalLine count reply place) (now (out .exit)) r ⌝ }
+    ensures { λ r. ⌜ TextLaid (now (out .entry)) at (totalLine count reply place) (now (out .exit)) r ⌝ }
 {
     let a = put_number(out, at, b"total ", count);
-    let b = put_number(out, a, b" answer ", wide8(reply));
+    let b = put_number(out, a, b" answer ", size_from_u8(reply));
     let c = put_number(out, b, b" at ", place);
     put(out, c, b"\n")
 }
@@ -73,7 +73,7 @@ fn put_total(out: &mut [u8], at: usize, count: usize, reply: u8, place: usize) -
 // Puts the line of what a step of the walk tells: a sound frame of one byte is one of no data; the end and 15, which is unread, have no line.
 fn put_step(out: &mut [u8], at: usize, number: usize, reply: u8, bytes: usize) -> usize
     requires { ⌜ (bytes < 100000) × (at + length (stepLine number reply bytes) ≤ length (now out)) ⌝ }
-    ensures { λ r. ⌜ Laid (now (out .entry)) at (stepLine number reply bytes) (now (out .exit)) r ⌝ }
+    ensures { λ r. ⌜ TextLaid (now (out .entry)) at (stepLine number reply bytes) (now (out .exit)) r ⌝ }
 {
     if 1 < bytes {
         return put_line(out, at, number, DONE, bytes - 1);

@@ -8,7 +8,7 @@ use Rattle.bits.specs.Bits.{word, view}
 use Rattle.bits.specs.Codings.{wordOf}
 use Rattle.bits.specs.Codecs.{writeAll}
 use Rattle.words.specs.Tables.{coding, words, table16}
-use Rattle.order.specs.Order.{sent}
+use Rattle.order.specs.SentOrder.{sent}
 use Rattle.norms.specs.Steps.{numbers, close, stepsClose}
 use Rattle.norms.specs.Part.{normKinds, normBits}
 

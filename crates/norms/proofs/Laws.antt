@@ -5,4 +5,4 @@ pub mod Loops
 pub mod Part
 pub mod Reads
 pub mod Steps
-pub mod Sure
+pub mod NeverRefused

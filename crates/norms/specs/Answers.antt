@@ -11,7 +11,7 @@ use Rattle.ground.specs.Replies.{done, outOfRange, farApart}
 use Rattle.bits.specs.Codings.{Answer, got, no, replyOf}
 use Rattle.bits.specs.Codecs.{writeAll}
 use Rattle.words.specs.Tables.{coding, normWords}
-use Rattle.order.specs.Order.{sent}
+use Rattle.order.specs.SentOrder.{sent}
 use Rattle.norms.specs.Steps.{stepsClose}
 use Rattle.norms.specs.Part.{numbersOf}
 use Rattle.norms.specs.declared.NormPart.{NormPart}

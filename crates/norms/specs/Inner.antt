@@ -4,9 +4,9 @@ use mathlib.Core.Bool.{true, false}
 use mathlib.Core.List.{List, [], _∷_}
 use Prim.Native.Nat.{ℕ}
 use lib.ListN.{replicate}
-use Rattle.bits.specs.Codecs.{Check, fine, bad}
+use Rattle.bits.specs.Codecs.{Verdict, fine, bad}
 use Rattle.norms.specs.declared.Indices.{Indices}
 
-abbrev pub indicesOf : Check (List ℕ) → Indices
+abbrev pub indicesOf : Verdict (List ℕ) → Indices
 indicesOf (fine ss) = record { sound = true; norms = ss }
 indicesOf (bad x) = record { sound = false; norms = replicate 44 0 }

@@ -6,9 +6,9 @@ use mathlib.Core.Bool.{Bool, cond}
 use mathlib.Core.List.{List, _∷_, map}
 use Prim.Native.Nat.{ℕ}
 use lib.ListN.{length, replicate}
-use Rattle.bits.specs.Codecs.{Codec, Check, fine, bad, checked, words, writeAll}
+use Rattle.bits.specs.Codecs.{Codec, Verdict, fine, bad, checked, words, writeAll}
 use Rattle.words.specs.Tables.{coding, normWords}
-use Rattle.order.specs.Order.{sent, banded}
+use Rattle.order.specs.SentOrder.{sent, banded}
 use Rattle.norms.specs.Steps.{numbers, indices, Near}
 
 -- the kinds of the 44 numbers
@@ -20,12 +20,12 @@ pub record Writable (transient : Bool) (norms : List ℕ) : Type 0 where
   pub long : length norms ≡ 44
   pub near : Near 15 (sent transient norms)
 
-abbrev pub inBands : Bool → Check (List ℕ) → Check (List ℕ)
+abbrev pub inBands : Bool → Verdict (List ℕ) → Verdict (List ℕ)
 inBands transient (fine ss) = fine (banded transient ss)
 inBands transient (bad x) = bad x
 
 -- norms in band order from the numbers sent, and back
-abbrev pub normsOf : Bool → List ℕ → Check (List ℕ)
+abbrev pub normsOf : Bool → List ℕ → Verdict (List ℕ)
 normsOf transient ws = inBands transient (indices 15 ws)
 
 abbrev pub numbersOf : Bool → List ℕ → List ℕ

@@ -6,7 +6,7 @@ use mathlib.Core.List.{List, [], _∷_}
 use Prim.Native.Nat.{ℕ, _+_, _-_, _≤_}
 use lib.Dec.{leb}
 use lib.ListN.{getD, drop}
-use Rattle.bits.specs.Codecs.{Check, fine, bad}
+use Rattle.bits.specs.Codecs.{Verdict, fine, bad}
 use Rattle.bits.specs.declared.Refusal.the-variants.{Outside}
 
 -- each index plus 15, less the one before it
@@ -14,14 +14,14 @@ unfoldable pub numbers : ℕ → List ℕ → List ℕ
 numbers x [] = []
 numbers x (y ∷ ys) = (y + 15 - x) ∷ numbers y ys
 
-abbrev pub guarded : Bool → Bool → ℕ → Check (List ℕ) → Check (List ℕ)
+abbrev pub guarded : Bool → Bool → ℕ → Verdict (List ℕ) → Verdict (List ℕ)
 guarded true true y (fine ys) = fine (y ∷ ys)
 guarded true true y (bad k) = bad k
 guarded true false y c = bad Outside
 guarded false t y c = bad Outside
 
 -- each index is the one before, plus the number, less 15; one outside 0 to 39 is refused
-unfoldable pub indices : ℕ → List ℕ → Check (List ℕ)
+unfoldable pub indices : ℕ → List ℕ → Verdict (List ℕ)
 indices x [] = fine []
 indices x (w ∷ ws) = guarded (leb 15 (x + w)) (leb (x + w) 54) (x + w - 15) (indices (x + w - 15) ws)
 

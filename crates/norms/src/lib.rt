@@ -8,8 +8,8 @@ ghost use Rattle.norms.specs.Part.{normKinds, normPart, normBits};
 ghost use Rattle.norms.specs.Answers.{partOf, normReply, choiceOf};
 ghost use Rattle.norms.specs.Inner.{indicesOf};
 use ground::numbers::minus16;
+use ground::numbers::size_from_u16;
 use ground::numbers::u16_from_u8;
-use ground::numbers::wide16;
 use ground::replies::DONE;
 use ground::replies::FAR_APART;
 use ground::replies::NORM_OUTSIDE;
@@ -43,7 +43,7 @@ fn indices_of(ws: [u16; 44]) -> Indices
     let mut x: usize = 15;
     let mut i: usize = 0;
     while i < 44 {
-        let y = x + wide16(ws[i]);
+        let y = x + size_from_u16(ws[i]);
         if y < 15 {
             return Indices {
                 sound: false,

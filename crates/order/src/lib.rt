@@ -2,8 +2,8 @@
 ghost use mathlib.Core.Path.{_≡_};
 ghost use Prim.Native.Nat.{ℕ, _<_};
 ghost use lib.ListN.{length, getD};
-ghost use Rattle.ground.specs.Fills.{table};
-ghost use Rattle.order.specs.Order.{pick, sent, banded};
+ghost use Rattle.ground.specs.ListsByRule.{table};
+ghost use Rattle.order.specs.SentOrder.{pick, sent, banded};
 
 mod tables;
 

@@ -3,8 +3,9 @@
 use mathlib.Core.Path.{_≡_, refl}
 use mathlib.Core.List.{List, [], _∷_}
 use lib.IntN.{pos, negsuc}
-use Rattle.ground.specs.Fills.{from}
+use Rattle.ground.specs.ListsByRule.{from}
 use Rattle.ground.specs.Replies.{done}
+use Rattle.ground.specs.Sums.{sumTo}
 use Rattle.lattice.specs.Lattice.{x, rounded, error, roundedSum, worst, largest, changed, step, final, coordinate, point, backAt, back}
 use Rattle.points.specs.Answers.{allTo, below, agree, pointOf, indexOf, noIndex}
 
@@ -19,5 +20,5 @@ pub stars :
     × (pointOf 2 (first 0 3 0) ≡ record { reply = done; at = first (negsuc 0) (negsuc 0) (pos 0) })
     × (indexOf 2 (first (negsuc 0) (negsuc 0) (pos 0)) ≡ record { reply = done; at = first 0 3 0 })
     × (indexOf 2 (first (pos 1) (pos 0) (pos 0)) ≡ noIndex)
-unfolding x rounded error roundedSum worst largest changed step final coordinate point backAt back allTo below agree pointOf indexOf from
+unfolding x rounded error roundedSum worst largest changed step final coordinate point backAt back allTo below agree pointOf indexOf from sumTo
 stars = (refl, refl, refl, refl, refl, refl)

@@ -6,7 +6,7 @@ use Prim.Native.Nat.{ℕ, zero, suc, _^_}
 use lib.Dec.{ltb, leb, eqb}
 use lib.ListN.{getD}
 use lib.IntN.{ℤ, pos, negsuc}
-use Rattle.ground.specs.Fills.{table}
+use Rattle.ground.specs.ListsByRule.{table}
 use Rattle.ground.specs.Replies.{done, outOfRange}
 use Rattle.lattice.specs.Lattice.{point, back}
 use Rattle.points.specs.declared.Point.{Point}

@@ -3,7 +3,7 @@ ghost use mathlib.Core.Path.{_≡_};
 ghost use Prim.Native.Nat.{ℕ, suc, _+_, _%_, _<_, _≤_, _^_};
 ghost use lib.ListN.{getD};
 ghost use lib.IntN.{pos};
-ghost use Rattle.ground.specs.Whole.{Is};
+ghost use Rattle.ground.specs.Differences.{Is};
 ghost use Rattle.lattice.specs.Lattice.{sumZ, point, backAt, back};
 ghost use Rattle.points.specs.Answers.{owns, below, noPoint, pointOf, agree, noIndex, indexOf};
 use ground::numbers::raise;

@@ -38,13 +38,13 @@ unfoldable pub prefixOf : List ℕ → Prefix
 prefixOf s = cond (eqb (length s) 0) NoByte (prefixByte (getD s 0 0))
 
 -- 01's number and values for each case; only 0 and 14 give a next place
-pub record Reading : Type 0 where
+pub record PrefixReading : Type 0 where
   pub reply : ℕ
   pub field : ℕ
   pub bytes : ℕ
   pub next : ℕ
 
-abbrev pub readingOf : Prefix → Reading
+abbrev pub readingOf : Prefix → PrefixReading
 readingOf (Data l) = record { reply = done; field = l .0; bytes = lengthBytes (l .0); next = 1 }
 readingOf NoData = record { reply = noData; field = 0; bytes = 0; next = 1 }
 readingOf NoByte = record { reply = noByte; field = 0; bytes = 0; next = 0 }
@@ -56,11 +56,11 @@ readingOf Reserved = record { reply = reserved; field = 0; bytes = 0; next = 0 }
 unfoldable pub byteOf : ℕ → Byte
 byteOf m = cond (ltb m 20) (Is (byteWith 0 (m + 8) 0)) OutOfRange
 
-pub record Writing : Type 0 where
+pub record PrefixWriting : Type 0 where
   pub reply : ℕ
   pub byte : ℕ
 
-abbrev pub writingOf : Byte → Writing
+abbrev pub writingOf : Byte → PrefixWriting
 writingOf (Is b) = record { reply = done; byte = b }
 writingOf OutOfRange = record { reply = outOfRange; byte = 0 }
 

@@ -54,10 +54,10 @@ pub record Read (A : Type 0) : Type 0 where
 
 -- ---- the prefix byte, as 01's number and values
 
-abbrev pub read-prefix : List ℕ → prefix.Reading
+abbrev pub read-prefix : List ℕ → prefix.PrefixReading
 read-prefix src = prefix.readingOf (prefix.prefixOf src)
 
-abbrev pub write-prefix : ℕ → prefix.Writing
+abbrev pub write-prefix : ℕ → prefix.PrefixWriting
 write-prefix mode = prefix.writingOf (prefix.byteOf mode)
 
 -- ---- a frame

@@ -9,7 +9,7 @@ use mathlib.Core.List.{List, _++_, map}
 use Prim.Native.Nat.{ℕ, _-_, _*_, _≤_, _<_}
 use lib.Dec.{eqb}
 use lib.ListN.{length, take, drop, replicate}
-use Rattle.ground.specs.Fills.{table}
+use Rattle.ground.specs.ListsByRule.{table}
 use Rattle.ground.specs.Replies.{done, cut, notAsBooked, noData, tooMany}
 use Rattle.ground.specs.Runs.{runs, part}
 use Rattle.ground.specs.Sums.{nth}

@@ -83,7 +83,8 @@ pub record Contracts : Type 0 where
   pub of-read-block : (κs : _) (given : _) (r : _) (exit : _) → read-block.Post κs given r exit
       → Reads r (now (exit .1 .1 .0)) (now (exit .1 .1 .1 .0)) (call.read-block (now (given .0)) (given .1 .0) (now (given .1 .1 .0)) (now (given .1 .1 .1 .0)))
   pub of-write-block : (κs : _) (given : _) (r : _) (exit : _) → write-block.Post κs given r exit
-      → Writes r (now (exit .1 .1 .1 .1 .0)) (call.write-block (given .0) (given .1 .0) (now (given .1 .1 .0)) (now (given .1 .1 .1 .0)) (now (given .1 .1 .1 .1 .0)))
+      → Writes r (now (exit .1 .1 .1 .1 .0))
+      (call.write-block (given .0) (given .1 .0) (now (given .1 .1 .0)) (now (given .1 .1 .1 .0)) (now (given .1 .1 .1 .1 .0)))
 
 -- "Two results that meet a promise are equal": a result alone, with one slice, with numbers and bytes
 pub record Alike : Type 1 where

@@ -10,13 +10,14 @@ use lib.Dec.{eqb}
 use lib.IntN.{ℤ, pos}
 use lib.ListN.{replicate}
 use Rattle.ground.specs.Refusals.{OneOf}
-use Rattle.ground.specs.Replies.{done, noData}
+use Rattle.ground.specs.Replies.{done, noData, wrongChannels}
 use Rattle.words.specs.Answers.{wordAt, numberOf}
 use Rattle.words.specs.declared.Word.{Word}
 use Rattle.runs.specs.Runs.{passedUp, runReply}
 use Rattle.frame.specs.Answers.{noRecord, stoppedAt}
 use Rattle.frame.specs.declared.Record.{Record}
 use Rattle.block_writer.specs.declared.Records.{Records}
+use Rattle.channels.specs.Copies.{refusedCopy}
 use Rattle.promises.specs.Calls as call
 
 -- ---- "… gives a numbered answer": the numbers of 01's table that each call can answer, and no other
@@ -62,7 +63,8 @@ pub record Untouched : Type 0 where
   pub write : (r : Record) (codes tail out : List ℕ) → let c = call.write r codes tail out in Refused (c .answer .reply) → c .out ≡ out
   pub write-empty : (out : List ℕ) → let c = call.write-empty out in Refused (c .answer .reply) → c .out ≡ out
   pub list : (src out : List ℕ) → let c = call.list src out in Refused (c .answer .reply) → c .out ≡ out
-  pub extract : (src : List ℕ) (channels channel : ℕ) (out : List ℕ) → let c = call.extract src channels channel out in Refused (c .answer .reply) → c .out ≡ out
+  pub extract : (src : List ℕ) (channels channel : ℕ) (out : List ℕ) → let c = call.extract src channels channel out in
+      Refused (c .answer .reply) → c .out ≡ out
   pub join : (src lengths out : List ℕ) → let c = call.join src lengths out in Refused (c .answer .reply) → c .out ≡ out
   pub read-block : (src : List ℕ) (channels : ℕ) (codes tails : List ℕ) → let c = call.read-block src channels codes tails in Refused (c .answer .reply)
       → (c .codes ≡ codes) × (c .tail ≡ tails)
@@ -82,7 +84,8 @@ pub record Zeros : Type 0 where
   -- noRecord has 0 in each of its fields
   pub read : (src codes tail : List ℕ) → let a = call.read src codes tail .answer in Refused (a .reply)
       → a ≡ record { reply = a .reply; next = placeOn (a .reply); «record» = noRecord }
-  pub write : (r : Record) (codes tail out : List ℕ) → let a = call.write r codes tail out .answer in Refused (a .reply) → a ≡ record { reply = a .reply; next = 0 }
+  pub write : (r : Record) (codes tail out : List ℕ) → let a = call.write r codes tail out .answer in Refused (a .reply)
+      → a ≡ record { reply = a .reply; next = 0 }
   pub write-empty : (out : List ℕ) → let a = call.write-empty out .answer in Refused (a .reply) → a ≡ record { reply = a .reply; next = 0 }
   pub layout : (r : Record) (codes : List ℕ) → let a = call.layout r codes in Refused (a .reply)
       → a ≡ record { reply = a .reply; budget = 0; rates = replicate 44 0; «code_bits» = 0; «tail_bits» = 0 }
@@ -97,14 +100,23 @@ pub record Zeros : Type 0 where
       → a ≡ record { reply = a .reply; rates = replicate 44 0; left = 0 }
   pub lattice-point : (rate : ℕ) (index : List ℕ) → let a = call.lattice-point rate index in Refused (a .reply)
       → a ≡ record { reply = a .reply; at = replicate 8 (pos 0) }
-  pub lattice-index : (rate : ℕ) (point : List ℤ) → let a = call.lattice-index rate point in Refused (a .reply) → a ≡ record { reply = a .reply; at = replicate 8 0 }
-  pub codebook-point : (rate index : ℕ) → let a = call.codebook-point rate index in Refused (a .reply) → a ≡ record { reply = a .reply; at = replicate 8 (pos 0) }
+  pub lattice-index : (rate : ℕ) (point : List ℤ) → let a = call.lattice-index rate point in Refused (a .reply)
+      → a ≡ record { reply = a .reply; at = replicate 8 0 }
+  pub codebook-point : (rate index : ℕ) → let a = call.codebook-point rate index in Refused (a .reply)
+      → a ≡ record { reply = a .reply; at = replicate 8 (pos 0) }
   pub codebook-index : (rate : ℕ) (point : List ℤ) → let a = call.codebook-index rate point in Refused (a .reply) → a ≡ record { reply = a .reply; index = 0 }
   pub list : (src out : List ℕ) → let a = call.list src out .answer in Refused (a .reply) → a ≡ record { reply = a .reply; length = 0 }
   pub read-block : (src : List ℕ) (channels : ℕ) (codes tails : List ℕ) → let a = call.read-block src channels codes tails .answer in Refused (a .reply)
       → a ≡ record { reply = a .reply; next = 0; frames = replicate 8 (stoppedAt 0 0) }
   pub write-block : (records : Records) (channels : ℕ) (codes tails out : List ℕ) → let a = call.write-block records channels codes tails out .answer in
       Refused (a .reply) → a ≡ record { reply = a .reply; next = 0 }
+  -- of several channels 17 and 10 have zeros beside them; any other number comes with the check's own count and place, and no bytes
+  pub check-blocks : (src : List ℕ) (channels booking : ℕ) → let a = call.check-blocks src channels booking in a .reply ≡ wrongChannels
+      → a ≡ record { reply = a .reply; count = 0; place = 0 }
+  pub extract : (src : List ℕ) (channels channel : ℕ) (out : List ℕ) → let a = call.extract src channels channel out .answer in
+      (OneOf (10 ∷ 17 ∷ []) (a .reply) → a ≡ refusedCopy (a .reply)) × (Refused (a .reply) → a .length ≡ 0)
+  pub join : (src lengths out : List ℕ) → let a = call.join src lengths out .answer in
+      (OneOf (10 ∷ 17 ∷ []) (a .reply) → a ≡ refusedCopy (a .reply)) × (Refused (a .reply) → a .length ≡ 0)
   -- the check tells its count and its place whatever its number: the booking does not change them
   pub check : (src : List ℕ) (booking other : ℕ)
       → (call.check src booking .count ≡ call.check src other .count) × (call.check src booking .place ≡ call.check src other .place)

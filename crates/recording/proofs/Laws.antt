@@ -1,5 +1,5 @@
 -- The laws of this crate, for its own proofs and for the crates above.
-pub mod Begun
+pub mod BlockSoFar
 pub mod Blocks
 pub mod Checked
 pub mod CutReport

@@ -22,14 +22,14 @@ further k (stops x) = stops x
 further k (passes n) = passes (k + n)
 
 -- in a block that has started, a frame that is not there is cut off: 4
-abbrev pub within : Step → Step
-within (stops x) = stops (cond (eqb x noByte) cut x)
-within (passes n) = passes n
+abbrev pub inBlock : Step → Step
+inBlock (stops x) = stops (cond (eqb x noByte) cut x)
+inBlock (passes n) = passes n
 
 -- a refused frame stops; behind a sound one the rest of the block follows
 abbrev pub followed : Step → (ℕ → Step) → Step
 followed (stops x) rest = stops x
-followed (passes k) rest = further k (within (rest k))
+followed (passes k) rest = further k (inBlock (rest k))
 
 -- the block of so many channels at the start
 unfoldable pub blockStep : ℕ → List ℕ → Step

@@ -1,5 +1,5 @@
 // Runs the lowest layers over their whole tables and prints what they answer: prefix bytes, sizes, and each word written and read back.
-use ground::numbers::wide8;
+use ground::numbers::size_from_u8;
 use prefix::Byte;
 use prefix::Length;
 use prefix::Mode;
@@ -45,22 +45,22 @@ fn size_row(n: u8) {
 // with as many bits before the end as it has, and with one bit fewer.
 fn word_row(kind: u8, v: u16) {
     let mut s = [255u8; 4];
-    let n = words::put_word(&mut s, 13, kind, v);
+    let n = words::write_word(&mut s, 13, kind, v);
     show::text(b"word");
     show::number(kind as u64);
     show::number(v as u64);
     row(
         n as u64,
-        wide8(s[1]) as u64,
-        wide8(s[2]) as u64,
-        wide8(s[3]) as u64,
+        size_from_u8(s[1]) as u64,
+        size_from_u8(s[2]) as u64,
+        size_from_u8(s[3]) as u64,
     );
     if 16 < n {
         return;
     }
-    answer_row(words::word_at(&s, 13, 13 + n, kind));
+    answer_row(words::read_word(&s, 13, 13 + n, kind));
     if 0 < n {
-        answer_row(words::word_at(&s, 13, 12 + n, kind));
+        answer_row(words::read_word(&s, 13, 12 + n, kind));
     }
 }
 
@@ -75,8 +75,8 @@ fn answer_row(w: Word) {
 // The word that the 5-bit column lacks, with all its bits before the end and with one fewer.
 fn lacking_rows() {
     let s = [253u8, 255];
-    answer_row(words::word_at(&s, 0, 7, 19));
-    answer_row(words::word_at(&s, 0, 6, 19));
+    answer_row(words::read_word(&s, 0, 7, 19));
+    answer_row(words::read_word(&s, 0, 6, 19));
 }
 
 fn word_rows(kind: u8, end: u16) {

@@ -6,8 +6,8 @@ ghost use lib.ListN.{length};
 ghost use Rattle.bits.specs.Bits.{laid};
 ghost use Rattle.bits.specs.Codecs.{writeAll};
 ghost use Rattle.words.specs.Tables.{coding};
-ghost use Rattle.words.specs.Look.{lookTable};
-ghost use Rattle.words.specs.Spell.{spellTable};
+ghost use Rattle.words.specs.ReadingTable.{readingTable};
+ghost use Rattle.words.specs.WritingTable.{writingTable};
 ghost use Rattle.runs.specs.Runs.{ran, runAt, readSome, over, passedUp, runReply};
 use bits::Refusal;
 use ground::replies::DONE;
@@ -48,14 +48,14 @@ fn read_run(
     kinds: &[u8],
     out: &mut [u16],
 ) -> Run
-    requires { ⌜ (now table ≡ lookTable) × (length (now kinds) ≤ length (now out)) ⌝ }
+    requires { ⌜ (now table ≡ readingTable) × (length (now kinds) ≤ length (now out)) ⌝ }
     ensures { λ r. ⌜ (r ≡ ran at (end - at) (runAt (now (s .entry)) at end (now (kinds .entry))))
         × (now (out .exit) ≡ over (readSome (now (s .entry)) at end (now (kinds .entry))) (now (out .entry))) ⌝ }
 {
     let mut p = at;
     let mut i: usize = 0;
     while i < kinds.len() {
-        let w = words::word_in(table, s, p, end, kinds[i]);
+        let w = words::read_word_by(table, s, p, end, kinds[i]);
         let Word::At(v, next) = w else {
             return passed(w);
         };
@@ -72,20 +72,20 @@ pub fn read_words(s: &[u8], at: usize, end: usize, kinds: &[u8], out: &mut [u16]
     ensures { λ r. ⌜ (r ≡ ran at (end - at) (runAt (now (s .entry)) at end (now (kinds .entry))))
         × (now (out .exit) ≡ over (readSome (now (s .entry)) at end (now (kinds .entry))) (now (out .entry))) ⌝ }
 {
-    let table = words::tables::LOOK;
+    let table = words::tables::READING;
     read_run(&table, s, at, end, kinds, out)
 }
 
 // The run by lent words.
 fn write_run(table: &[u16; 92], s: &mut [u8], at: usize, kinds: &[u8], numbers: &[u16]) -> usize
-    requires { ⌜ (now table ≡ spellTable) × (length (now kinds) ≡ length (now numbers)) × (at + 16 * length (now kinds) < 18446744073709551616) ⌝ }
+    requires { ⌜ (now table ≡ writingTable) × (length (now kinds) ≡ length (now numbers)) × (at + 16 * length (now kinds) < 18446744073709551616) ⌝ }
     ensures { λ r. ⌜ (r ≡ length (writeAll (map coding (now (kinds .entry))) (now (numbers .entry))))
         × (now (s .exit) ≡ laid (now (s .entry)) at (writeAll (map coding (now (kinds .entry))) (now (numbers .entry)))) ⌝ }
 {
     let mut n: usize = 0;
     let mut i: usize = 0;
     while i < kinds.len() {
-        n += words::put_in(table, s, at + n, kinds[i], numbers[i]);
+        n += words::write_word_by(table, s, at + n, kinds[i], numbers[i]);
         i += 1;
     }
     n
@@ -97,19 +97,19 @@ pub fn write_words(s: &mut [u8], at: usize, kinds: &[u8], numbers: &[u16]) -> us
     ensures { λ r. ⌜ (r ≡ length (writeAll (map coding (now (kinds .entry))) (now (numbers .entry))))
         × (now (s .exit) ≡ laid (now (s .entry)) at (writeAll (map coding (now (kinds .entry))) (now (numbers .entry)))) ⌝ }
 {
-    let table = words::tables::WORDS;
+    let table = words::tables::WRITING;
     write_run(&table, s, at, kinds, numbers)
 }
 
 // The count by lent words.
 fn count_run(table: &[u16; 92], kinds: &[u8], numbers: &[u16]) -> usize
-    requires { ⌜ (now table ≡ spellTable) × (length (now kinds) ≡ length (now numbers)) × (16 * length (now kinds) < 18446744073709551616) ⌝ }
+    requires { ⌜ (now table ≡ writingTable) × (length (now kinds) ≡ length (now numbers)) × (16 * length (now kinds) < 18446744073709551616) ⌝ }
     ensures { λ r. ⌜ r ≡ length (writeAll (map coding (now (kinds .entry))) (now (numbers .entry))) ⌝ }
 {
     let mut n: usize = 0;
     let mut i: usize = 0;
     while i < kinds.len() {
-        n += words::bits_in(table, kinds[i], numbers[i]);
+        n += words::word_bits_by(table, kinds[i], numbers[i]);
         i += 1;
     }
     n
@@ -120,6 +120,6 @@ pub fn run_bits(kinds: &[u8], numbers: &[u16]) -> usize
     requires { ⌜ (length (now kinds) ≡ length (now numbers)) × (16 * length (now kinds) < 18446744073709551616) ⌝ }
     ensures { λ r. ⌜ r ≡ length (writeAll (map coding (now (kinds .entry))) (now (numbers .entry))) ⌝ }
 {
-    let table = words::tables::WORDS;
+    let table = words::tables::WRITING;
     count_run(&table, kinds, numbers)
 }

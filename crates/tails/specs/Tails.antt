@@ -4,7 +4,7 @@ use mathlib.Core.Bool.{Bool, false, true, not, _&&_}
 use mathlib.Core.List.{List, _∷_, _++_, []}
 use Prim.Native.Nat.{ℕ, _+_, _-_, _*_}
 use lib.ListN.{length, replicate}
-use Rattle.ground.specs.Fills.{table}
+use Rattle.ground.specs.ListsByRule.{table}
 use Rattle.bits.specs.Bits.{view, val, bytesOf}
 
 -- the tail's bits from the top, the rest 0

@@ -5,7 +5,7 @@ use mathlib.Core.Bool.{true, false}
 use mathlib.Core.List.{[], _∷_, _++_}
 use lib.IntN.{pos, negsuc}
 use lib.ListN.{replicate}
-use Rattle.ground.specs.Fills.{from}
+use Rattle.ground.specs.ListsByRule.{from}
 use Rattle.weights.specs.Table17.{table17, rowAt, has, seek, rowOf}
 use Rattle.weights.specs.Weights.{loudness, sumOver, spe, bspe, forward, backward, renormed, largest, smallest, mapped, louds, spes, rowWeights, spread}
 use Rattle.weights.specs.Weights.{weightsOf, score, scoresOf, weighed}

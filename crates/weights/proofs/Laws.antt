@@ -1,4 +1,4 @@
 -- The laws of this crate, for its own proofs and for the crates above.
-pub mod Bridge
+pub mod RaisedNumbers
 pub mod Printed
 pub mod Stages

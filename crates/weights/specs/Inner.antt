@@ -4,7 +4,7 @@ use mathlib.Core.Bool.{Bool, cond}
 use mathlib.Core.List.{List}
 use Prim.Native.Nat.{ℕ, zero, suc, _+_, _-_, _*_, _/_, max, min}
 use lib.Dec.{ltb}
-use Rattle.ground.specs.Fills.{table}
+use Rattle.ground.specs.ListsByRule.{table}
 use Rattle.ground.specs.Sums.{nth, sumTo}
 use Rattle.weights.specs.Table17.{bandsOf, heightOf, liftOf, floorOf}
 

@@ -5,9 +5,9 @@ use Prim.Native.Nat.{ℕ, zero, suc, _+_, _-_, _*_, _/_}
 use lib.IntN.{ℤ, pos, natAbs, _+ℤ_, _-ℤ_, _*ℤ_}
 use lib.ListN.{getD, replicate}
 use lib.Signed.{ltZ, shrZ}
-use Rattle.ground.specs.Fills.{table}
+use Rattle.ground.specs.ListsByRule.{table}
 use Rattle.ground.specs.Indices.{inRange}
-use Rattle.ground.specs.Order.{maxZ, minZ}
+use Rattle.ground.specs.LargerSmaller.{maxZ, minZ}
 use Rattle.ground.specs.Replies.{done, outOfRange}
 use Rattle.ground.specs.Sums.{nth}
 use Rattle.weights.specs.declared.Weights.{Weights}
@@ -33,7 +33,7 @@ four p = (4 * (p / 4)) ∷ (4 * (p / 4) + 1) ∷ (4 * (p / 4) + 2) ∷ (4 * (p /
 unfoldable pub spe : Bool → List ℤ → ℕ → ℤ
 spe transient ls p = cond transient (pos 180 *ℤ sumOver (nthZ ls) (four p)) (pos 720 *ℤ nthZ ls p)
 
--- (24): BSpe(b) is the sum of Spe(p) over J_b by H_b, plus T_b; the division leaves no rest (proofs/Bridge, exact)
+-- (24): BSpe(b) is the sum of Spe(p) over J_b by H_b, plus T_b; the division leaves no rest (proofs/Laws/RaisedNumbers, exact)
 unfoldable pub bspe : List ℤ → ℕ → ℤ
 bspe ss b = shrZ (sumOver (nthZ ss) (bandsOf b)) (heightOf b) +ℤ pos (720 * liftOf b)
 

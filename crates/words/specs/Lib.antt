@@ -1,5 +1,5 @@
 pub mod Tables
 pub mod Answers
-pub mod Look
-pub mod Spell
+pub mod ReadingTable
+pub mod WritingTable
 pub mod Inner

@@ -9,12 +9,12 @@ ghost use Rattle.bits.specs.Codings.{unword, wordOf, fit};
 ghost use Rattle.words.specs.Tables.{words, column, coding};
 ghost use Rattle.words.specs.Answers.{placed, wordAt};
 ghost use Rattle.words.specs.Inner.{right, packed, startOf};
-ghost use Rattle.words.specs.Look.{lookTable};
-ghost use Rattle.words.specs.Spell.{spellTable};
+ghost use Rattle.words.specs.ReadingTable.{readingTable};
+ghost use Rattle.words.specs.WritingTable.{writingTable};
 use bits::Refusal;
 use ground::numbers::minus;
-use ground::numbers::wide8;
-use ground::numbers::wide16;
+use ground::numbers::size_from_u8;
+use ground::numbers::size_from_u16;
 
 pub mod tables;
 
@@ -33,11 +33,11 @@ pub enum Word {
     No(Refusal),
 }
 
-fn look(table: &[u8; 640], k: usize) -> usize
-    requires { ⌜ (now table ≡ lookTable) × (k < 640) ⌝ }
+fn reading_entry(table: &[u8; 640], k: usize) -> usize
+    requires { ⌜ (now table ≡ readingTable) × (k < 640) ⌝ }
     ensures { λ r. ⌜ T (right k r) × (r < 256) ⌝ }
 {
-    wide8(table[k])
+    size_from_u8(table[k])
 }
 
 // The column of a kind of words.
@@ -45,15 +45,19 @@ fn column_of(kind: usize) -> usize
     requires { ⌜ 16 ≤ kind ⌝ }
     ensures { λ r. ⌜ (column r ≡ column (kind - 16)) × (r < 5) ⌝ }
 {
-    if kind < 20 { kind - FIRST_WORDS } else { 4 }
+    if kind < NORM_WORDS as usize {
+        kind - FIRST_WORDS
+    } else {
+        4
+    }
 }
 
 // The word of a column at a place, within the bits that are left.
 fn column_word(table: &[u8; 640], s: &[u8], at: usize, left: usize, c: usize) -> Word
-    requires { ⌜ (now table ≡ lookTable) × (c < 5) × (at + left < 18446744073709551616) ⌝ }
+    requires { ⌜ (now table ≡ readingTable) × (c < 5) × (at + left < 18446744073709551616) ⌝ }
     ensures { λ r. ⌜ r ≡ placed at left (unword (column c) (view (now (s .entry)) at left)) ⌝ }
 {
-    let e = look(table, c * 128 + bits::read_bits(s, at, 7));
+    let e = reading_entry(table, c * 128 + bits::read_bits(s, at, 7));
     if e == 0 {
         if left < 7 {
             return Word::No(Refusal::Past);
@@ -68,14 +72,14 @@ fn column_word(table: &[u8; 640], s: &[u8], at: usize, left: usize, c: usize) ->
 }
 
 // The word of a kind at a place, by a lent look-up.
-pub fn word_in(table: &[u8; 640], s: &[u8], at: usize, end: usize, kind: u8) -> Word
-    requires { ⌜ now table ≡ lookTable ⌝ }
+pub fn read_word_by(table: &[u8; 640], s: &[u8], at: usize, end: usize, kind: u8) -> Word
+    requires { ⌜ now table ≡ readingTable ⌝ }
     ensures { λ r. ⌜ r ≡ wordAt (now (s .entry)) at end kind ⌝ }
 {
     if kind == 0 {
         return Word::At(0, at);
     }
-    let kind = wide8(kind);
+    let kind = size_from_u8(kind);
     let left = minus(end, at);
     if FIRST_WORDS <= kind {
         return column_word(table, s, at, left, column_of(kind));
@@ -87,18 +91,18 @@ pub fn word_in(table: &[u8; 640], s: &[u8], at: usize, end: usize, kind: u8) -> 
 }
 
 // The word of a kind at a place, all of it before the end: the bits from the end on never help to finish a word.
-pub fn word_at(s: &[u8], at: usize, end: usize, kind: u8) -> Word
+pub fn read_word(s: &[u8], at: usize, end: usize, kind: u8) -> Word
     ensures { λ r. ⌜ r ≡ wordAt (now (s .entry)) at end kind ⌝ }
 {
-    let table = tables::LOOK;
-    word_in(&table, s, at, end, kind)
+    let table = tables::READING;
+    read_word_by(&table, s, at, end, kind)
 }
 
 fn start_of(c: usize) -> usize
     requires { ⌜ c < 6 ⌝ }
     ensures { λ r. ⌜ (r ≡ startOf c) × (r ≤ 92) ⌝ }
 {
-    wide8(tables::STARTS[c])
+    size_from_u8(tables::STARTS[c])
 }
 
 // How many words a column has.
@@ -109,11 +113,11 @@ fn size_of(c: usize) -> usize
     start_of(c + 1) - start_of(c)
 }
 
-fn spell(table: &[u16; 92], c: usize, v: usize) -> usize
-    requires { ⌜ (now table ≡ spellTable) × (c < 5) × (v < length (words c)) ⌝ }
+fn writing_entry(table: &[u16; 92], c: usize, v: usize) -> usize
+    requires { ⌜ (now table ≡ writingTable) × (c < 5) × (v < length (words c)) ⌝ }
     ensures { λ r. ⌜ (r ≡ packed (getD (words c) v [])) × (r < 65536) ⌝ }
 {
-    wide16(table[start_of(c) + v])
+    size_from_u16(table[start_of(c) + v])
 }
 
 // A word as so many bits of a number.
@@ -123,12 +127,12 @@ struct Spelling {
 }
 
 // The word of a kind for a number; no bits where it has none.
-fn spelt(table: &[u16; 92], kind: u8, v: u16) -> Spelling
-    requires { ⌜ now table ≡ spellTable ⌝ }
+fn word_of(table: &[u16; 92], kind: u8, v: u16) -> Spelling
+    requires { ⌜ now table ≡ writingTable ⌝ }
     ensures { λ r. ⌜ (word (r .bits) (r .value) ≡ wordOf (coding kind) v) × (r .bits ≤ 16) ⌝ }
 {
-    let kind = wide8(kind);
-    let v = wide16(v);
+    let kind = size_from_u8(kind);
+    let v = size_from_u16(v);
     if kind < FIRST_WORDS {
         return Spelling {
             bits: kind,
@@ -139,7 +143,7 @@ fn spelt(table: &[u16; 92], kind: u8, v: u16) -> Spelling
     if size_of(c) <= v {
         return Spelling { bits: 0, value: 0 };
     }
-    let e = spell(table, c, v);
+    let e = writing_entry(table, c, v);
     Spelling {
         bits: e % 8,
         value: e / 8,
@@ -147,39 +151,39 @@ fn spelt(table: &[u16; 92], kind: u8, v: u16) -> Spelling
 }
 
 // Writes the word of a kind for a number at a place, by lent words.
-pub fn put_in(table: &[u16; 92], s: &mut [u8], at: usize, kind: u8, v: u16) -> usize
-    requires { ⌜ now table ≡ spellTable ⌝ }
+pub fn write_word_by(table: &[u16; 92], s: &mut [u8], at: usize, kind: u8, v: u16) -> usize
+    requires { ⌜ now table ≡ writingTable ⌝ }
     ensures { λ r. ⌜ (r ≡ length (wordOf (coding kind) v)) × (now (s .exit) ≡ laid (now (s .entry)) at (wordOf (coding kind) v)) ⌝ }
 {
     if kind == 0 {
         return 0;
     }
-    let w = spelt(table, kind, v);
+    let w = word_of(table, kind, v);
     bits::write_bits(s, at, w.bits, w.value);
     w.bits
 }
 
 // Writes the word of a kind for a number at a place, and gives its length. A number without a word is no bits.
-pub fn put_word(s: &mut [u8], at: usize, kind: u8, v: u16) -> usize
+pub fn write_word(s: &mut [u8], at: usize, kind: u8, v: u16) -> usize
     ensures { λ r. ⌜ (r ≡ length (wordOf (coding kind) v)) × (now (s .exit) ≡ laid (now (s .entry)) at (wordOf (coding kind) v)) ⌝ }
 {
-    let table = tables::WORDS;
-    put_in(&table, s, at, kind, v)
+    let table = tables::WRITING;
+    write_word_by(&table, s, at, kind, v)
 }
 
 // The words of all columns, to be lent.
-pub fn all_words() -> [u16; 92]
-    ensures { λ r. ⌜ r ≡ spellTable ⌝ }
+pub fn writing_table() -> [u16; 92]
+    ensures { λ r. ⌜ r ≡ writingTable ⌝ }
 {
-    tables::WORDS
+    tables::WRITING
 }
 
 // The length of the word of a kind for a number, by lent words.
-pub fn bits_in(table: &[u16; 92], kind: u8, v: u16) -> usize
-    requires { ⌜ now table ≡ spellTable ⌝ }
+pub fn word_bits_by(table: &[u16; 92], kind: u8, v: u16) -> usize
+    requires { ⌜ now table ≡ writingTable ⌝ }
     ensures { λ r. ⌜ r ≡ length (wordOf (coding kind) v) ⌝ }
 {
-    let spelling = spelt(table, kind, v);
+    let spelling = word_of(table, kind, v);
     spelling.bits
 }
 
@@ -187,16 +191,16 @@ pub fn bits_in(table: &[u16; 92], kind: u8, v: u16) -> usize
 pub fn word_bits(kind: u8, v: u16) -> usize
     ensures { λ r. ⌜ r ≡ length (wordOf (coding kind) v) ⌝ }
 {
-    let table = tables::WORDS;
-    bits_in(&table, kind, v)
+    let table = tables::WRITING;
+    word_bits_by(&table, kind, v)
 }
 
 // Whether a number has a word of a kind.
 pub fn has_word(kind: u8, v: u16) -> bool
     ensures { λ r. ⌜ r ≡ fit (coding kind) v ⌝ }
 {
-    let kind = wide8(kind);
-    let v = wide16(v);
+    let kind = size_from_u8(kind);
+    let v = size_from_u16(v);
     if kind < FIRST_WORDS {
         return v < 1 << kind;
     }

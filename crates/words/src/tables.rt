@@ -1,7 +1,7 @@
 // The words of Tables 16 and 20 as the code looks them up. Columns 0 to 3 are Table 20's for the rates 2 to 5, column 4 is Table 16.
 
 // For seven bits of each column: 8 times the number, and the length of its word. 0 for the word that the 5-bit column lacks.
-pub const LOOK: [u8; 640] = [
+pub const READING: [u8; 640] = [
     1,
     1,
     1,
@@ -645,7 +645,7 @@ pub const LOOK: [u8; 640] = [
 ];
 
 // The words of all columns, one after the other: 8 times a word's value, and its length.
-pub const WORDS: [u16; 92] = [
+pub const WRITING: [u16; 92] = [
     1,
     51,
     59,

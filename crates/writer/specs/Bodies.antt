@@ -11,7 +11,7 @@ use Rattle.bits.specs.Codecs.{writeAll, FitAll}
 use Rattle.words.specs.Tables.{coding}
 use Rattle.norms.specs.Part.{normBits}
 use Rattle.norms.specs.Answers.{normReply}
-use Rattle.kinds.specs.Budget.{spare}
+use Rattle.kinds.specs.Budget.{noiseBits}
 use Rattle.frame.specs.declared.Record.{Record}
 use Rattle.tails.specs.Tails.{clear}
 use Rattle.layout.specs.Parts.{flagBits, kindsFor, budgetFor, codesLong}
@@ -21,7 +21,7 @@ use Rattle.writer.specs.Writes.{Roomy}
 unfoldable pub bodyBits : Record → List ℕ → List ℕ → List Bool
 bodyBits r vs ts =
     flagBits r ++ (normBits (r .transient) (r .«flag_n») (r .norms)
-    ++ (writeAll (map coding (kindsFor r)) vs ++ (word (spare (r .transient)) (r .noise) ++ view ts 0 (r .«tail_bits»))))
+    ++ (writeAll (map coding (kindsFor r)) vs ++ (word (noiseBits (r .transient)) (r .noise) ++ view ts 0 (r .«tail_bits»))))
 
 -- ---- what a reply of 0 tells
 

@@ -1,4 +1,4 @@
-pub mod Tests
+pub mod Noise
 pub mod Empty
 pub mod Writes
 pub mod Bodies

@@ -12,9 +12,9 @@ use Rattle.bits.specs.Bits.{view, bytesOf}
 use Rattle.prefix.specs.Sizes.{modeBytes}
 use Rattle.prefix.specs.Prefix.{byteWith}
 use Rattle.norms.specs.Answers.{normCauses}
-use Rattle.frame.specs.Layout.{Frame, frame}
+use Rattle.frame.specs.Layout.{Frame, madeFrame, frame}
 use Rattle.frame.specs.declared.Record.{Record}
-use Rattle.writer.specs.Tests.{quietOf}
+use Rattle.writer.specs.Noise.{noiseFits}
 use Rattle.tails.specs.Tails.{clear}
 use Rattle.layout.specs.Parts.{flagBits, total, budgetFor, kindsFor, codesLong, modeCause, numbersCause, codeCauses}
 use Rattle.writer.specs.declared.Writing.{Writing}
@@ -22,7 +22,7 @@ use Rattle.writer.specs.declared.Writing.{Writing}
 -- ---- the frame that a record means: its flags, norms, the first 800 codes, noise, and as many bits of the tail as it counts
 
 abbrev pub frameOf : Record → List ℕ → List ℕ → Frame
-frameOf r cs ts = (flagBits r, (r .norms, (take 800 cs, (r .noise, view ts 0 (r .«tail_bits»)))))
+frameOf r cs ts = madeFrame (flagBits r) (r .norms) (take 800 cs) (r .noise) (view ts 0 (r .«tail_bits»))
 
 -- the prefix byte and the body
 unfoldable pub bytesFor : Record → List ℕ → List ℕ → List ℕ
@@ -37,7 +37,7 @@ roomCauses r codes tail room =
     ∷ numbersCause codes
     ∷ ltb tail 320 gives shortRoom
     ∷ ltb room (modeBytes (r .mode) + 1) gives shortRoom
-    ∷ not (quietOf (r .transient) (r .noise)) gives outOfRange
+    ∷ not (noiseFits (r .transient) (r .noise)) gives outOfRange
     ∷ []
 
 -- 13: tail count or padding wrong
@@ -74,4 +74,4 @@ pub record Roomy (r : Record) (c t room : ℕ) : Type 0 where
   pub codes : 800 ≤ c
   pub tail : 320 ≤ t
   pub out : modeBytes (r .mode) < room
-  pub quiet : quietOf (r .transient) (r .noise) ≡ true
+  pub quiet : noiseFits (r .transient) (r .noise) ≡ true

@@ -5,14 +5,14 @@ ghost use Prim.Native.Nat.{_+_, _*_, _≤_, _<_};
 ghost use lib.ListN.{length};
 ghost use Rattle.ground.specs.Refusals.{said, first};
 ghost use Rattle.bits.specs.Bits.{laid, word, num};
-ghost use Rattle.writer.specs.Tests.{quietOf};
+ghost use Rattle.writer.specs.Noise.{noiseFits};
 ghost use Rattle.writer.specs.Empty.{emptyReply, emptyAfter};
 ghost use Rattle.layout.specs.Parts.{flagBits, kindsFor};
 ghost use Rattle.writer.specs.Writes.{roomCauses, tailCauses, writeReply, writingOf, outAfter};
 ghost use Rattle.writer.specs.Bodies.{bodyBits};
 use frame::Record;
-use ground::numbers::wide8;
-use ground::numbers::wide16;
+use ground::numbers::size_from_u8;
+use ground::numbers::size_from_u16;
 use ground::replies::DONE;
 use ground::replies::OUT_OF_RANGE;
 use ground::replies::SHORT_ROOM;
@@ -30,7 +30,7 @@ pub struct Writing {
 
 // Whether the noise is one that the kind of frame has: 0 to 3, and 0 in a transient frame.
 fn is_quiet(transient: bool, noise: u8) -> bool
-    ensures { λ r. ⌜ r ≡ quietOf transient noise ⌝ }
+    ensures { λ r. ⌜ r ≡ noiseFits transient noise ⌝ }
 {
     if transient {
         return noise == 0;
@@ -74,7 +74,7 @@ fn room_reply(r: Record, codes: usize, tail: usize, room: usize) -> u8
     if tail < 320 {
         return SHORT_ROOM;
     }
-    if room <= wide16(Mode(r.mode).bytes()) {
+    if room <= size_from_u16(Mode(r.mode).bytes()) {
         return SHORT_ROOM;
     }
     if !is_quiet(r.transient, r.noise) {
@@ -94,7 +94,7 @@ fn late_reply(parts: Parts, tail: &[u8], count: u16) -> u8
     if count != parts.tail_bits {
         return WRONG_TAIL;
     }
-    if tails::all_clear(tail, wide16(count), 2560) {
+    if tails::all_clear(tail, size_from_u16(count), 2560) {
         return DONE;
     }
     WRONG_TAIL
@@ -133,9 +133,9 @@ fn write_body(r: Record, kinds: &[u8], numbers: &[u16], tail: &[u8], out: &mut [
     bits::write_bits(out, 8, 4, flag_number(r));
     let n = norms::write_norms(out, 12, r.transient, r.flag_n, norms);
     let m = runs::write_words(out, 12 + n, kinds, numbers);
-    let k = kinds::spare_of(r.transient);
-    bits::write_bits(out, 12 + n + m, k, wide8(r.noise));
-    tails::copy_bits(tail, wide16(r.tail_bits), out, 12 + n + m + k);
+    let k = kinds::noise_bits(r.transient);
+    bits::write_bits(out, 12 + n + m, k, size_from_u8(r.noise));
+    tails::copy_bits(tail, size_from_u16(r.tail_bits), out, 12 + n + m + k);
 }
 
 // Writes a record as a stored frame: 8 for the mode, 10, the other causes of 8, 9, 12, 7, 13. Only 0 changes the output, and exactly frame + 1 bytes.
@@ -164,7 +164,7 @@ pub fn write(r: Record, codes: &[u16], tail: &[u8], out: &mut [u8]) -> Writing
     let Byte::Is(first) = byte else {
         return refusal(OUT_OF_RANGE);
     };
-    let n = wide16(Mode(r.mode).bytes());
+    let n = size_from_u16(Mode(r.mode).bytes());
     out[0] = first;
     write_body(r, &kinds, numbers, tail, out);
     Writing {

@@ -8,18 +8,19 @@ use native.Mathlib.Omega.{arith}
 use borrow.Author.Tests.{le-leb, lt-leb}
 use lib.IntN.{pos}
 use lib.ListN.{length, replicate}
-use Rattle.ground.specs.Fills.{table, getD-table, length-from, filled}
+use Rattle.ground.specs.ListsByRule.{table}
+use Rattle.ground.proofs.Laws.ListsByRule.{getD-table, length-from, filled}
 use Rattle.ground.specs.Replies.{done, outOfRange}
 use Rattle.ground.specs.Sums.{nth, sumTo}
 use Rattle.weights.specs.Weights.{nthZ, score, weightsOf, scoresOf}
 use Rattle.ground.specs.Indices.{inRange}
 use Rattle.ground.proofs.Laws.Indices.{range-at}
-use Rattle.weights.proofs.Laws.Bridge.{score-is}
+use Rattle.weights.proofs.Laws.RaisedNumbers.{score-is}
 use Rattle.contest.specs.Bands.{lengthOf, competing}
 use Rattle.contest.specs.Fairness.{Fair}
-use Rattle.contest.proofs.Laws.Raised.{Heights}
+use Rattle.contest.proofs.Laws.RaisedContest.{Heights}
 use Rattle.contest.specs.Rounds.{at, played, rates}
-use Rattle.contest.proofs.Laws.Promise.{rate-is, left-is, shared}
+use Rattle.contest.proofs.Laws.SharesFairly.{rate-is, left-is, shared}
 use Rattle.levels.specs.declared.Ends.{Ends}
 use Rattle.levels.specs.Levels.{Room, settled}
 use Rattle.levels.specs.Levels as levels

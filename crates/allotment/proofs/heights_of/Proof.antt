@@ -1,7 +1,7 @@
 -- The raised scores, place by place. Assumes nothing.
 use Prim.Native.Nat.{_*_, _+_, _-_}
 use borrow.Author.Needs.{needs}
-use Rattle.ground.proofs.Laws.Filling.{Filling, filling}
+use Rattle.ground.proofs.Laws.FillingLoops.{Filling, filling}
 use Rattle.ground.proofs.Laws.Indices.{range-at}
 use Rattle.ground.specs.Sums.{nth}
 use Rattle.allotment.proofs.heights_of.Statement.{statement}

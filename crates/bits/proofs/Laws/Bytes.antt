@@ -9,7 +9,7 @@ use native.Mathlib.Omega.{arith}
 use lib.ListN.{length, getD, take, drop, length-append, length-drop, take-append-drop}
 use lib.Seq.{take-at, drop-at, length-take-le}
 use Rattle.bits.specs.Bits.{odd, word, val, view, bitsOf, bytesOf, Bytes}
-use Rattle.bits.proofs.Laws.Numbers.{val-word, word-val, length-word}
+use Rattle.bits.proofs.Laws.NumbersAsBits.{val-word, word-val, length-word}
 use Rattle.bits.proofs.Laws.Views.{view-add, view-byte, take-view, drop-view}
 
 pub length-bits : (s : List ℕ) → length (bitsOf s) ≡ length s * 8

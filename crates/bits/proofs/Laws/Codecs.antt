@@ -12,7 +12,7 @@ use borrow.Author.Tests.{le-leb, leb-true}
 use Rattle.bits.specs.Codings.{Coding, Answer, got, no, unword, wordOf}
 use Rattle.bits.proofs.Laws.Codings.{Good, unword-word, word-unword}
 use Rattle.bits.specs.Codecs.{Codec, andThen, coded, writeAll, readAll, FitAll, words, after, pair, rawGot, rawRead, raw, glue, within}
-use Rattle.bits.specs.Codecs.{Check, fine, bad, settle, checked}
+use Rattle.bits.specs.Codecs.{Verdict, fine, bad, settle, checked}
 
 -- `spare`: how many bits must stand after a value that is read. back: read after write. there: write after read
 pub record Lawful (spare : ℕ) {A : Type 0} (c : Codec A) : Type 0 where
@@ -152,10 +152,10 @@ module _ {A : Type 0} (k : ℕ) {c : Codec A} (C : Lawful 0 c) where
 
 -- ---- the value in another form: what is read and passes comes of it, and what may be written passes
 
-module _ {A B : Type 0} {k : ℕ} {c : Codec A} {to : A → Check B} {from : B → A} {Okay : B → Type 0} (C : Lawful k c)
+module _ {A B : Type 0} {k : ℕ} {c : Codec A} {to : A → Verdict B} {from : B → A} {Okay : B → Type 0} (C : Lawful k c)
     (sound : (a : A) (b : B) → c .Ok a → to a ≡ fine b → (from b ≡ a) × Okay b)
     (whole : (b : B) → Okay b → (to (from b) ≡ fine b) × c .Ok (from b)) where
-  settle-got : (z : Check B) (r q : List Bool) (b : B) → settle z r ≡ got b q → (z ≡ fine b) × (r ≡ q)
+  settle-got : (z : Verdict B) (r q : List Bool) (b : B) → settle z r ≡ got b q → (z ≡ fine b) × (r ≡ q)
   settle-got (fine x) r q b e = (let h : x ≡ b = cc in ap fine h, (cc))
   settle-got (bad x) r q b e = absurd (let z : _≡_ {A = ℕ} 0 1 = cc in omega arith)
 

@@ -11,13 +11,13 @@ use lib.Dec.{T, leb, ltb}
 use lib.ListN.{length, getD, take, drop, length-append, take-append-drop, List·getD-append}
 use lib.Seq.{take-at, drop-at, length-take-le}
 use borrow.Author.Tests.{le-leb, lt-leb, leb-true, ltb-true, lt-ltb, le-ltb}
-use Rattle.ground.specs.Cases.{and-T}
+use Rattle.ground.proofs.Laws.Cases.{and-T}
 use Rattle.bits.specs.Bits.{word, val, view}
 use Rattle.bits.specs.Codings.{Answer, got, no, Coding, fixed, prefix, wordOf, strip, orElse, find, keep, below, whole, unword}
 use Rattle.bits.specs.Codings.{fit, Fit}
 use Rattle.bits.specs.declared.Refusal.{Refusal}
 use Rattle.bits.specs.declared.Refusal.the-variants.{Missing, Past}
-use Rattle.bits.proofs.Laws.Numbers.{val-lt, val-word, word-val, length-word}
+use Rattle.bits.proofs.Laws.NumbersAsBits.{val-lt, val-word, word-val, length-word}
 use Rattle.bits.proofs.Laws.Views.{length-view, take-view, drop-view}
 
 -- ---- codings that obey both laws

@@ -10,7 +10,7 @@ use lib.ListN.{length, getD, take, drop, replicate, length-append, List·getD-eq
 use lib.Pow.{pow-mono}
 use lib.Seq.{take-at, drop-at}
 use Rattle.bits.specs.Bits.{odd, word, val, bit, view}
-use Rattle.bits.proofs.Laws.Numbers.{val-lt, val-word, val-append, val-middle, shifted-one}
+use Rattle.bits.proofs.Laws.NumbersAsBits.{val-lt, val-word, val-append, val-middle, shifted-one}
 
 pub length-view : (s : List ℕ) (p n : ℕ) → length (view s p n) ≡ n
 unfolding view

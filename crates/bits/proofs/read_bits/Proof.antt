@@ -1,7 +1,7 @@
 -- `bits::read_bits` meets its contract: the bits out of the window, by a shift and a remainder. Assumes nothing.
 use denote.Ref.{now}
 use native.Mathlib.Omega.{arith}
-use Rattle.bits.proofs.Laws.Numbers.{shifted-pos}
+use Rattle.bits.proofs.Laws.NumbersAsBits.{shifted-pos}
 use Rattle.bits.proofs.Laws.Views.{window-read}
 use borrow.Author.Needs.{needs}
 use Rattle.bits.proofs.read_bits.Statement.{statement}

@@ -2,8 +2,8 @@
 use denote.Ref.{now}
 use Prim.Native.Nat.{_-_, _%_, _<_}
 use native.Mathlib.Omega.{arith}
-use Rattle.bits.proofs.Laws.Numbers.{shifted-pos}
-use Rattle.bits.proofs.Laws.Laid.{made, window-small, window-laid}
+use Rattle.bits.proofs.Laws.NumbersAsBits.{shifted-pos}
+use Rattle.bits.proofs.Laws.LaidBits.{made, window-small, window-laid}
 use borrow.Author.Needs.{needs}
 use Rattle.bits.proofs.write_bits.Statement.{statement}
 use Rattle.bits.proofs.write_bits.Tie as tie

@@ -9,7 +9,7 @@ use lib.Seq.{length-take-le}
 use borrow.Author.Tests.{ne-eqb}
 use Rattle.ground.specs.Refusals.{said, first}
 use Rattle.ground.proofs.Laws.Refusals.{front-first, back-first, both-first, said-first}
-use Rattle.ground.specs.Fills.{table}
+use Rattle.ground.specs.ListsByRule.{table}
 use Rattle.ground.specs.Runs.{part}
 use Rattle.ground.proofs.Laws.Runs.{backed, length-part, Fronted, fronted-none, fronted-more, drop-same, Parted, parted-none, parted-rest, parted-more}
 use Rattle.frame.specs.Answers as frame

@@ -10,7 +10,7 @@ use lib.ListN.{length, replicate}
 use Rattle.ground.proofs.Laws.Cases.{T-and}
 use Rattle.ground.specs.Refusals.{said}
 use Rattle.ground.proofs.Laws.Refusals.{numbers, first-number, numbers-append}
-use Rattle.ground.specs.Tables.{every, every-at}
+use Rattle.ground.proofs.Laws.PrintedTables.{every, every-at}
 use Rattle.frame.specs.declared.Record.{Record}
 use Rattle.recording.specs.Walk.{Step, stops, passes}
 use Rattle.recording.specs.Blocks.{blockStep, passingOf}

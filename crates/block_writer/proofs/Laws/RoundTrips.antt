@@ -11,18 +11,19 @@ use lib.Dec.{eqb, ltb}
 use lib.ListN.{length, getD, take, drop, replicate, length-append, length-drop, length-map, take-append-drop, List·getD-append, List·getD-map}
 use lib.Seq.{take-at, drop-at, drop-length, take-all, length-take-le}
 use borrow.Author.Tests.{le-ltb, ltb-true, ltb-false}
-use Rattle.ground.specs.Cases.{by-bool}
+use Rattle.ground.proofs.Laws.Cases.{by-bool}
 use Rattle.ground.specs.Replies.{done, noData}
 use Rattle.ground.specs.Refusals.{first}
 use Rattle.ground.proofs.Laws.Refusals.{row-fails, no-row, neither-first, runs-none}
-use Rattle.ground.specs.Fills.{table, length-from, getD-table}
-use Rattle.ground.proofs.Laws.Fills.{table-same}
+use Rattle.ground.specs.ListsByRule.{table}
+use Rattle.ground.proofs.Laws.ListsByRule.{length-from, getD-table}
+use Rattle.ground.proofs.Laws.ListsByRule.{table-same}
 use Rattle.ground.specs.Runs.{runs, part}
 use Rattle.ground.proofs.Laws.Runs.{runs-add, runs-front, runs-same, length-runs, length-part}
 use Rattle.ground.proofs.Laws.Sums.{sum-same}
 use Rattle.bits.specs.Bits.{Bytes, bitsOf}
 use Rattle.bits.proofs.Laws.Bytes.{length-bytes}
-use Rattle.bits.proofs.Laws.Laid.{bytes-take, bytes-drop}
+use Rattle.bits.proofs.Laws.LaidBits.{bytes-take, bytes-drop}
 use Rattle.bits.specs.Codecs.{words}
 use Rattle.words.specs.Tables.{coding}
 use Rattle.bits.proofs.Laws.Codecs.{fit-length}

@@ -10,7 +10,7 @@ use lib.Dec.{T, ltb}
 use lib.ListN.{length, drop, take, length-append, length-drop}
 use lib.Seq.{take-at, drop-at, drop-drop, take-all, drop-length}
 use borrow.Author.Tests.{eq-eqb, ne-eqb, ltb-true, ltb-false}
-use Rattle.ground.specs.Cases.{by-bool}
+use Rattle.ground.proofs.Laws.Cases.{by-bool}
 use Rattle.ground.proofs.Laws.Cases.{T-and}
 use Rattle.ground.specs.Refusals.{_gives_, first, notDone}
 use Rattle.ground.proofs.Laws.Refusals.{numbers, by-rows, no-row, first-none, front-first, back-first, neither-first, both-first, numbers-append}
@@ -125,24 +125,24 @@ module _ (r : Records) (cs ts : List ℕ) where
 
 -- ---- the output: the frames below c stand at its front, up to a place, and the rest is as before
 
-pub record Laid (f : ℕ → List ℕ) (l₀ l : List ℕ) (at c : ℕ) : Type 0 where
+pub record FramesLaid (f : ℕ → List ℕ) (l₀ l : List ℕ) (at c : ℕ) : Type 0 where
   pub place : at ≡ length (runs c f)
   pub inside : at ≤ length l₀
   pub long : length l ≡ length l₀
   pub same : l ≡ runs c f ++ drop at l₀
 
-pub laid-none : {f : ℕ → List ℕ} {l₀ : List ℕ} → Laid f l₀ l₀ 0 0
+pub laid-none : {f : ℕ → List ℕ} {l₀ : List ℕ} → FramesLaid f l₀ l₀ 0 0
 unfolding runs
 laid-none = record { place = refl; inside = omega arith; long = refl; same = refl }
 
-module _ {f : ℕ → List ℕ} {l₀ l : List ℕ} {at c : ℕ} (p : Laid f l₀ l at c) where
+module _ {f : ℕ → List ℕ} {l₀ l : List ℕ} {at c : ℕ} (p : FramesLaid f l₀ l at c) where
   -- what is left is as it was
   pub laid-rest : take (length l - at) (drop at l) ≡ drop at l₀
   laid-rest =
       take-all (length l - at) (drop at l) (omega (arith, length-drop at l)) ∙ ap (drop at) (p .same) ∙ drop-at (runs c f) (drop at l₀) at (sym (p .place))
 
   laid-more : (k : ℕ) (ys : List ℕ) → length (f c) ≡ k → at + k ≤ length l₀ → ys ≡ f c ++ drop k (drop at l₀)
-      → Laid f l₀ (backed l at (length l - at) ys) (at + k) (c + 1)
+      → FramesLaid f l₀ (backed l at (length l - at) ys) (at + k) (c + 1)
   laid-more k ys n h y =
       let front : take at l ≡ runs c f = ap (take at) (p .same) ∙ take-at (runs c f) (drop at l₀) at (sym (p .place)) in
       let none : drop (length l - at) (drop at l) ≡ [] = ap (λ (j : ℕ). drop j (drop at l)) (sym (length-drop at l)) ∙ drop-length (drop at l) in
@@ -236,7 +236,7 @@ module _ (r : Records) (n : ℕ) (cs ts out : List ℕ) where
 -- ---- a turn
 
 module _ {r : Records} {n : ℕ} {cs ts : List ℕ} {out₀ out : List ℕ} {at c : ℕ}
-    (q : Passing r n cs ts (length out₀)) (p : Laid (bytesAt r cs ts) out₀ out at c) (h : c < n) where
+    (q : Passing r n cs ts (length out₀)) (p : FramesLaid (bytesAt r cs ts) out₀ out at c) (h : c < n) where
   fits : at + frameBytes (recordAt r c) (emptyAt r c) ≤ length out₀
   fits = omega (arith, p .place, q .out, frame-inside r cs ts c n h)
 
@@ -253,7 +253,7 @@ module _ {r : Records} {n : ℕ} {cs ts : List ℕ} {out₀ out : List ℕ} {at 
   pub frame-laid : (m j k : ℕ) (ys : List ℕ) → m ≡ 800 → j ≡ 320 → k ≡ frameBytes (recordAt r c) (emptyAt r c)
       → ys ≡ frameOf (recordAt r c) (emptyAt r c) (take m (drop (c * 800) cs)) (take j (drop (c * 320) ts)) ++ drop (frameBytes (recordAt r c) (emptyAt r c))
       (take (length out - at) (drop at out))
-      → Laid (bytesAt r cs ts) out₀ (backed out at (length out - at) ys) (at + k) (c + 1)
+      → FramesLaid (bytesAt r cs ts) out₀ (backed out at (length out - at) ys) (at + k) (c + 1)
   frame-laid m j k ys em ej ek ey =
       let g = recordAt r c in
       let e = emptyAt r c in

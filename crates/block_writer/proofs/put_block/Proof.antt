@@ -5,13 +5,13 @@ use denote.Ref.{now}
 use lib.ListN.{length}
 use native.Mathlib.Omega.{arith}
 use Rattle.block_writer.specs.Writing.{bytesAt}
-use Rattle.block_writer.proofs.Laws.Writing.{Laid, Passing, laid-none, laid-all, block-told, frame-ready, frame-laid}
+use Rattle.block_writer.proofs.Laws.Writing.{FramesLaid, Passing, laid-none, laid-all, block-told, frame-ready, frame-laid}
 use Rattle.block_writer.proofs.put_block.Statement.{statement}
 use Rattle.block_writer.proofs.put_block.Tie as tie
 
 abbrev Inv-loop : tie.InvT-loop
 Inv-loop channels codes tails out₀ list empties at₀ c₀ out at c =
-    (c ≤ channels) × Laid (bytesAt (record { at = list; empty = empties }) codes tails) out₀ out at c
+    (c ≤ channels) × FramesLaid (bytesAt (record { at = list; empty = empties }) codes tails) out₀ out at c
 
 abbrev μ-loop : tie.MeasureT-loop
 μ-loop channels codes tails out₀ list empties at₀ c₀ out at c = channels - c

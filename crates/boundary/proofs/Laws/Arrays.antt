@@ -6,7 +6,8 @@ use mathlib.Core.List.{List, [], _++_, map, append-nil}
 use Prim.Native.Nat.{ℕ, _<_}
 use native.Mathlib.Omega.{arith}
 use lib.ListN.{length, drop, getD, length-map, List·getD-map, drop-of-length-le}
-use Rattle.ground.specs.Fills.{table, filled}
+use Rattle.ground.specs.ListsByRule.{table}
+use Rattle.ground.proofs.Laws.ListsByRule.{filled}
 use Rattle.ground.proofs.Laws.Runs.{Fronted}
 use Rattle.frame.specs.declared.Record as frame
 use Rattle.frame.specs.declared.Reading as read

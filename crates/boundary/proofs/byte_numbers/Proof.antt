@@ -1,6 +1,6 @@
 -- `boundary::byte_numbers` meets its contract: by the case that the answer is. Assumes nothing.
 use mathlib.Core.Path.{sym, ap}
-use Rattle.boundary.specs.Numbers.{byteNumbers}
+use Rattle.boundary.specs.PrefixStructs.{byteNumbers}
 use borrow.Author.Needs.{needs}
 use Rattle.boundary.proofs.byte_numbers.Statement.{statement}
 use Rattle.boundary.proofs.byte_numbers.Tie as tie

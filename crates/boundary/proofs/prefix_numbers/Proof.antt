@@ -1,7 +1,7 @@
 -- `boundary::prefix_numbers` meets its contract: by the case that the answer is. Assumes nothing.
 use mathlib.Core.Path.{sym, ap, _∙_}
 use Prim.Native.Nat.{ℕ}
-use Rattle.boundary.specs.Numbers.{prefixNumbers}
+use Rattle.boundary.specs.PrefixStructs.{prefixNumbers}
 use borrow.Author.Needs.{needs}
 use Rattle.boundary.proofs.prefix_numbers.Statement.{statement}
 use Rattle.boundary.proofs.prefix_numbers.Tie as tie

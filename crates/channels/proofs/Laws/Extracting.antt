@@ -14,8 +14,8 @@ use borrow.Author.Tests.{eq-eqb, ne-eqb, lt-ltb, le-ltb, ltb-true}
 use Rattle.ground.specs.Runs.{runs}
 use Rattle.ground.proofs.Laws.Runs.{runs-none, runs-more, length-runs}
 use Rattle.ground.proofs.Laws.Sums.{sum-grows}
-use Rattle.ground.specs.Cases.{by-bool}
-use Rattle.ground.specs.Laying.{laidText, Laid}
+use Rattle.ground.proofs.Laws.Cases.{by-bool}
+use Rattle.ground.specs.Laying.{laidText, TextLaid}
 use Rattle.ground.proofs.Laws.Laying.{laid-none, laid-long, laid-front, then}
 use Rattle.ground.specs.Replies.{done, shortRoom, wrongChannels}
 use Rattle.recording.specs.Blocks.{isCount, walkBlocks}
@@ -106,14 +106,14 @@ module _ (s : List ℕ) (n c : ℕ) where
   pub record Copying (k : ℕ) (out₀ out : List ℕ) (at to b : ℕ) : Type 0 where
     pub few : b ≤ k
     pub at-frame : At at b
-    pub laid : Laid out₀ 0 (extracted n c b s) out to
+    pub laid : TextLaid out₀ 0 (extracted n c b s) out to
 
   pub copying-none : (k : ℕ) (out : List ℕ) (at : ℕ) → at ≡ placeFrom s 0 c → Copying k out out at 0 0
   copying-none k out at e =
       record {
         few = omega arith;
         at-frame = at-first at e;
-        laid = subst (λ (t : List ℕ). Laid out 0 t out 0) (sym (runs-none (λ b. frameAt s (b * n + c)))) (laid-none out 0 refl);
+        laid = subst (λ (t : List ℕ). TextLaid out 0 t out 0) (sym (runs-none (λ b. frameAt s (b * n + c)))) (laid-none out 0 refl);
       }
 
   module _ {k : ℕ} {out₀ out : List ℕ} {at to b : ℕ} (C : Copying k out₀ out at to b) (h : b < k) (z : ℕ) (ez : z ≡ sizeAt (drop at s)) where
@@ -135,14 +135,14 @@ module _ (s : List ℕ) (n c : ℕ) where
           length-append (runs b f) (f b),
         )
 
-    pub copying-more : {out′ : List ℕ} {to′ : ℕ} (r : ℕ) → Laid out to (take (at + z - at) (drop at s)) out′ to′ → r ≡ placeFrom s at n
+    pub copying-more : {out′ : List ℕ} {to′ : ℕ} (r : ℕ) → TextLaid out to (take (at + z - at) (drop at s)) out′ to′ → r ≡ placeFrom s at n
         → Copying k out₀ out′ r to′ (b + 1)
     copying-more {out′} {to′} r m er =
         let f : ℕ → List ℕ = λ j. frameAt s (j * n + c) in
         record {
           few = omega arith;
           at-frame = at-next r (C .at-frame) er;
-          laid = subst (λ (t : List ℕ). Laid out₀ 0 t out′ to′) (ap (λ (t : List ℕ). runs b f ++ t) part ∙ sym (runs-more f b)) (then (C .laid) m);
+          laid = subst (λ (t : List ℕ). TextLaid out₀ 0 t out′ to′) (ap (λ (t : List ℕ). runs b f ++ t) part ∙ sym (runs-more f b)) (then (C .laid) m);
         }
 
   pub copied-all : {k : ℕ} {out₀ out : List ℕ} {at to b : ℕ} → Copying k out₀ out at to b → k ≤ b → length (extracted n c k s) ≤ length out₀

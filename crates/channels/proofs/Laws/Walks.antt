@@ -10,10 +10,10 @@ use lib.ListN.{length}
 use Rattle.ground.specs.Replies.{done, wrongChannels}
 use Rattle.recording.specs.Walk.{mostFrames, walkOver, madeCheck, ahead}
 use Rattle.recording.proofs.Laws.Walk.{ahead-stopped, walk-end}
-use Rattle.recording.proofs.Laws.Units.{Told, Stop, ended, passed, met, walk-told, walk-units}
+use Rattle.recording.proofs.Laws.Units.{WalkSays, Stop, ended, passed, met, walk-says, walk-units}
 use Rattle.recording.specs.Frames.{Frames}
 use Rattle.recording.specs.Blocks.{Blocks, isCount, blockStep, walkBlocks, checkBlocks}
-use Rattle.recording.proofs.Laws.Blocks.{block-lawful}
+use Rattle.recording.proofs.Laws.Blocks.{block-unit}
 use Rattle.frames.proofs.Laws.Frames.{blocks-frames, frames-blocks}
 use Rattle.channels.specs.Copies.{checkAnswer}
 
@@ -22,8 +22,8 @@ pub walk-sound : (n : ℕ) → 1 ≤ n → (s : List ℕ) → walkBlocks n s .re
     → Blocks n (walkBlocks n s .count) s × (walkBlocks n s .count ≤ mostFrames) × (walkBlocks n s .place ≡ length s)
 walk-sound n h s e = go (t .stop)
   where
-    t : Told (blockStep n) (Frames n) mostFrames s (walkBlocks n s)
-    t = walk-told (block-lawful n h) mostFrames s
+    t : WalkSays (blockStep n) (Frames n) mostFrames s (walkBlocks n s)
+    t = walk-says (block-unit n h) mostFrames s
 
     go : Stop (blockStep n) mostFrames (t .rest) (walkBlocks n s)
         → Blocks n (walkBlocks n s .count) s × (walkBlocks n s .count ≤ mostFrames) × (walkBlocks n s .place ≡ length s)
@@ -31,11 +31,11 @@ walk-sound n h s e = go (t .stop)
         let w : s ≡ t .front = t .whole ∙ ap (λ (x : List ℕ). t .front ++ x) q ∙ append-nil (t .front) in
         (subst (Blocks n (walkBlocks n s .count)) (sym w) (t .units), t .few, sym (t .place) ∙ ap length (sym w))
     go (passed r q l) = absurd (omega arith)
-    go (met l k r) = absurd (let f = block-lawful n h .number (t .rest) (walkBlocks n s .reply) l r in omega (arith, f .0))
+    go (met l k r) = absurd (let f = block-unit n h .number (t .rest) (walkBlocks n s .reply) l r in omega (arith, f .0))
 
 pub walk-made : (n : ℕ) → 1 ≤ n → (k : ℕ) (s : List ℕ) → Blocks n k s → k ≤ mostFrames → walkBlocks n s ≡ madeCheck done k (length s)
 walk-made n h k s B l =
-    ap (walkOver (blockStep n) mostFrames) (sym (append-nil s)) ∙ walk-units (block-lawful n h) mostFrames [] B l
+    ap (walkOver (blockStep n) mostFrames) (sym (append-nil s)) ∙ walk-units (block-unit n h) mostFrames [] B l
     ∙ ap (ahead k (length s)) (walk-end (blockStep n) (mostFrames - k) [] refl) ∙ ahead-stopped k (length s) done
 
 -- of one channel: so many sound frames

@@ -1,4 +1,4 @@
--- Laws of specs/Choice.
+-- The FlagC choice place by place: the costs by kind are those by rate, and the loop that adds both; then the answer by its causes.
 -- Assumes nothing.
 use mathlib.Core.Path.{_≡_, refl, sym, ap, ap₂, _∙_, subst}
 use mathlib.Core.Bool.{Bool, true, false}
@@ -9,8 +9,8 @@ use lib.Dec.{ltb, eqb}
 use lib.ListN.{length, getD, take}
 use lib.Seq.{getD-take}
 use borrow.Author.Tests.{le-leb, lt-leb, eqb-true, eqb-false}
-use Rattle.ground.specs.Cases.{by-bool}
-use Rattle.ground.specs.Fills.{getD-table}
+use Rattle.ground.proofs.Laws.Cases.{by-bool}
+use Rattle.ground.proofs.Laws.ListsByRule.{getD-table}
 use Rattle.ground.specs.Replies.{done, wideCode}
 use Rattle.ground.specs.Refusals.{first}
 use Rattle.ground.proofs.Laws.Refusals.{by-rows, front-first, back-first}
@@ -18,7 +18,7 @@ use Rattle.ground.specs.Sums.{sumTo}
 use Rattle.ground.proofs.Laws.Sums.{sum-nil, sum-more, sum-same}
 use Rattle.bits.specs.Codings.{wordOf}
 use Rattle.words.specs.Tables.{coding}
-use Rattle.words.proofs.Laws.Spell.{word-few}
+use Rattle.words.proofs.Laws.WritingTable.{word-few}
 use Rattle.norms.proofs.Laws.Answers.{chosen-no, chosen-yes}
 use Rattle.kinds.specs.Kinds.{kindOf, kinds}
 use Rattle.kinds.proofs.Laws.Kinds.{kind-first, kind-none, kind-plain}

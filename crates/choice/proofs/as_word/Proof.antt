@@ -13,4 +13,4 @@ as-word-spec =
     (λ c. (search word-high, omega arith))
     (λ c. search needs)
     (λ c κs. search needs)
-    (λ c. word-yes _ _ _ (search) (search) (c .bits-in .ensures)))
+    (λ c. word-yes _ _ _ (search) (search) (c .word-bits-by .ensures)))

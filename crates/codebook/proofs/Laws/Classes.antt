@@ -7,7 +7,7 @@ use mathlib.Core.List.{List, [], _∷_, _++_}
 use Prim.Native.Nat.{ℕ, suc, _+_}
 use lib.ListN.{length, take, drop}
 use lib.IntN.{ℤ}
-use Rattle.ground.specs.Fills.{from}
+use Rattle.ground.specs.ListsByRule.{from}
 use Rattle.codebook.specs.Table18.{printed}
 use Rattle.codebook.specs.Codebook.{Class, classes, ends, vectors, eqRow, among, book, six}
 

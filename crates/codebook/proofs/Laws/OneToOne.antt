@@ -1,4 +1,4 @@
--- Laws of specs/OneToOne.
+-- At rate 1 indices and rows match one to one: no two rows have one code, so each row is found at its own place.
 -- Assumes nothing.
 use mathlib.Core.Path.{_≡_, refl, sym, ap, _∙_}
 use mathlib.Core.Bool.{Bool, true, false, cond}
@@ -9,8 +9,8 @@ use borrow.Author.Tests.{lt-ltb, le-ltb, ltb-true, ne-eqb}
 use lib.Dec.{ltb}
 use lib.ListN.{length, getD}
 use lib.IntN.{ℤ, pos}
-use Rattle.ground.specs.Cases.{by-bool}
-use Rattle.ground.specs.Fills.{filled}
+use Rattle.ground.proofs.Laws.Cases.{by-bool}
+use Rattle.ground.proofs.Laws.ListsByRule.{filled}
 use Rattle.ground.specs.Replies.{done, outOfRange}
 use Rattle.points.specs.Answers.{noPoint}
 use Rattle.codebook.specs.Codebook.{book, row, eqRow, eight, placeOf, rowPoint, rowIndex, noRow}

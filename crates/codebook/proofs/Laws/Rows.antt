@@ -1,4 +1,4 @@
--- Laws of specs/Rows.
+-- The rows that the code keeps, packed, are the repaired Table 18; what their codes tell of them.
 -- Assumes nothing.
 use mathlib.Core.Path.{_≡_, refl, sym, ap, _∙_}
 use mathlib.Core.Bool.{Bool, true, false, cond, _&&_}
@@ -11,10 +11,12 @@ use native.Mathlib.Omega.{arith}
 use borrow.Author.Tests.{eq-eqb, ne-eqb}
 use lib.Count.{ones, onesIn}
 use lib.IntN.{ℤ}
-use Rattle.ground.specs.Fills.{from, table, length-from}
+use Rattle.ground.specs.Sums.{sumTo}
+use Rattle.ground.specs.ListsByRule.{from, table}
+use Rattle.ground.proofs.Laws.ListsByRule.{length-from}
 use Rattle.ground.proofs.Laws.Cases.{and-true}
-use Rattle.ground.specs.Cases.{and-T}
-use Rattle.ground.specs.Tables.{every, every-at}
+use Rattle.ground.proofs.Laws.Cases.{and-T}
+use Rattle.ground.proofs.Laws.PrintedTables.{every, every-at}
 use Rattle.points.specs.Answers.{eqZ}
 use Rattle.points.proofs.Laws.Points.{eqZ-eq, eqZ-refl}
 use Rattle.codebook.specs.Table18.{printed}
@@ -109,7 +111,7 @@ packs : ℕ → ℕ → Bool
 packs n c = eqb (code (unpack (ltb n 128) c)) c
 
 all-pack : T (every packs 0 codes)
-unfolding packs codes twos signs code from
+unfolding packs codes twos signs code from sumTo
 all-pack = tt
 
 pub row-code : (n : ℕ) → n < 256 → code (row n) ≡ getD codes n 0

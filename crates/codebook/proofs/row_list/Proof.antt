@@ -5,7 +5,7 @@ use borrow.Author.Needs.{needs, sfits-of}
 use lib.Dec.{ltb}
 use mir.Facts.{toZ-ofZ}
 use mir.Syntax.{w16}
-use Rattle.ground.proofs.Laws.Filling.{Filling, filling-none, filling-more, filling-done}
+use Rattle.ground.proofs.Laws.FillingLoops.{Filling, filling-none, filling-more, filling-done}
 use Rattle.codebook.specs.Inner.{digit}
 use Rattle.codebook.specs.Packed.{entry}
 use Rattle.codebook.proofs.Laws.Rows.{row-made}

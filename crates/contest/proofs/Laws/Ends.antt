@@ -8,9 +8,9 @@ use native.Mathlib.Omega.{arith}
 use borrow.Author.Tests.{ltb-true}
 use lib.Dec.{ltb}
 use lib.ListN.{length}
-use Rattle.ground.specs.Cases.{by-bool}
-use Rattle.contest.specs.Raised.{Band, Game, at, granted, dropped, ahead, fits, round, contest, Ready}
-use Rattle.contest.proofs.Laws.Raised.{sumOf}
+use Rattle.ground.proofs.Laws.Cases.{by-bool}
+use Rattle.contest.specs.RaisedContest.{Band, Game, at, granted, dropped, ahead, fits, round, contest, Ready}
+use Rattle.contest.proofs.Laws.RaisedContest.{sumOf}
 use Rattle.contest.proofs.Laws.Rounds.{Able, able-round, ready-ahead, contest-on, contest-over, sum-served, sum-refused, no-one}
 
 -- the turns that a band may still have, and all bands together

@@ -9,9 +9,9 @@ use native.Mathlib.Omega.{arith}
 use borrow.Author.Tests.{le-ltb, ltb-false, leb-false}
 use lib.Dec.{ltb}
 use lib.ListN.{length}
-use Rattle.ground.specs.Cases.{by-bool}
-use Rattle.contest.specs.Raised.{Band, Game, at, granted, dropped, first, ahead, fits, round, contest, Ready}
-use Rattle.contest.proofs.Laws.Raised.{sumOf, countBelow, spent}
+use Rattle.ground.proofs.Laws.Cases.{by-bool}
+use Rattle.contest.specs.RaisedContest.{Band, Game, at, granted, dropped, first, ahead, fits, round, contest, Ready}
+use Rattle.contest.proofs.Laws.RaisedContest.{sumOf, countBelow, spent}
 use Rattle.contest.proofs.Laws.Rounds.{Able, able-round, ready-ahead, contest-on, holds, by-part, at-first, round-refused, served-left, sum-served}
 use Rattle.contest.proofs.Laws.Rounds.{sum-refused, stays, top, key-in, no-one}
 use Rattle.contest.proofs.Laws.Ends.{pot, pot-round, ends}

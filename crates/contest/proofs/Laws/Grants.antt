@@ -14,12 +14,13 @@ use lib.IntN.{ℤ, pos, negsuc, _-ℤ_}
 use lib.ListN.{length, length-set}
 use lib.Seq.{getD-set-same, getD-set-other}
 use lib.Signed.{ltZ}
-use Rattle.ground.specs.Cases.{by-bool}
-use Rattle.ground.specs.Fills.{from, table, getD-table, length-from}
+use Rattle.ground.proofs.Laws.Cases.{by-bool}
+use Rattle.ground.specs.ListsByRule.{from, table}
+use Rattle.ground.proofs.Laws.ListsByRule.{getD-table, length-from}
 use Rattle.ground.specs.Sums.{nth, sumTo}
 use Rattle.ground.proofs.Laws.Sums.{sum-same, sum-none, sum-but}
-use Rattle.ground.specs.Whole.{Is}
-use Rattle.ground.proofs.Laws.Whole.{is-pos, is-unique, is-same, is-sub}
+use Rattle.ground.specs.Differences.{Is}
+use Rattle.ground.proofs.Laws.Differences.{is-pos, is-unique, is-same, is-sub}
 use Rattle.contest.specs.Rounds.{Band, Game, nobody, at, leader, behind, granted, dropped, first, ahead, round, contest, begin, played, rates}
 use Rattle.contest.specs.Grants.{Grant, grantIn, grants, granting, scoresTo, costBelow}
 use Rattle.contest.specs.Fairness.{stepsBelow}

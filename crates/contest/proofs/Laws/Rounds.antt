@@ -11,10 +11,10 @@ use borrow.Author.Tests.{ltb-true, ltb-false, leb-true, leb-false, eqb-true, eqb
 use lib.Dec.{leb, ltb, eqb}
 use lib.ListN.{set, length, length-set}
 use lib.Seq.{getD-set-same, getD-set-other}
-use Rattle.ground.specs.Cases.{by-bool}
-use Rattle.contest.specs.Raised.{Band, Game, key, at, nobody, leader, granted, dropped, first, ahead, fits, served, refused, round, contest, Ready}
-use Rattle.contest.specs.Raised.{Readys, Sound}
-use Rattle.contest.proofs.Laws.Raised.{sumOf}
+use Rattle.ground.proofs.Laws.Cases.{by-bool}
+use Rattle.contest.specs.RaisedContest.{Band, Game, key, at, nobody, leader, granted, dropped, first, ahead, fits, served, refused, round, contest, Ready}
+use Rattle.contest.specs.RaisedContest.{Readys, Sound}
+use Rattle.contest.proofs.Laws.RaisedContest.{sumOf}
 
 -- ---- one round
 pub by-fit : (P : Game → Type 0) (g : Game) → (fits g ≡ true → P (served g)) → (fits g ≡ false → P (refused g)) → P (round g)

@@ -1,6 +1,6 @@
 -- `decimals::places` meets its contract, by the number of digits. Assumes nothing.
 use native.Mathlib.Omega.{arith}
-use Rattle.decimals.proofs.Laws.Numbers.{width-one, width}
+use Rattle.decimals.proofs.Laws.Digits.{width-one, width}
 use Rattle.decimals.proofs.places.Statement.{statement}
 use Rattle.decimals.proofs.places.Tie as tie
 

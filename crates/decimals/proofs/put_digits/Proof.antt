@@ -1,7 +1,7 @@
 -- `decimals::put_digits` meets its contract: the digits that are left, laid, make the text. Assumes nothing.
 use borrow.Author.Needs.{needs}
 use denote.Ref.{now}
-use Rattle.decimals.proofs.Laws.Numbers.{Digits, digits-start, digits-turn, digits-end}
+use Rattle.decimals.proofs.Laws.Digits.{Digits, digits-start, digits-turn, digits-end}
 use Rattle.decimals.proofs.put_digits.Statement.{statement}
 use Rattle.decimals.proofs.put_digits.Tie as tie
 

@@ -6,7 +6,7 @@ use denote.Ref.{now}
 use lib.ListN.{length, length-append}
 use Rattle.ground.proofs.Laws.Laying.{laid-long, then}
 use Rattle.decimals.specs.Decimals.{decimal}
-use Rattle.decimals.proofs.Laws.Numbers.{length-digits}
+use Rattle.decimals.proofs.Laws.Digits.{length-digits}
 use borrow.Author.Needs.{needs}
 use Rattle.decimals.proofs.put_number.Statement.{statement}
 use Rattle.decimals.proofs.put_number.Tie as tie

@@ -36,14 +36,14 @@ use Rattle.prefix.specs.declared.NamedMode.{NamedMode}
 use Rattle.prefix.specs.declared.NamedMode.the-variants as named-mode
 use Rattle.kinds.proofs.Laws.Kinds.{length-kinds}
 use Rattle.frame.specs.Layout.{Frame, isTransient, flagL, flagN, flagC, kindsOf, frame}
-use Rattle.kinds.specs.Budget.{spare, kindsAt, wideIn}
-use Rattle.kinds.proofs.Laws.Budget.{spare-le}
+use Rattle.kinds.specs.Budget.{noiseBits, kindsAt, allCompete}
+use Rattle.kinds.proofs.Laws.Budget.{noise-le}
 use Rattle.frame.proofs.Laws.Places.{frame-not, frame-got, budget-is}
 use Rattle.frame.specs.Answers.{Outcome, refused, empty, sound, outcome, stoppedAt, readBody, bodyOf, started, readAnswer, flagsOf, readingOf, codesAfter}
 use Rattle.frame.specs.Answers.{tailAfter}
 use Rattle.tails.specs.Tails.{tailFrom}
 use Rattle.tails.proofs.Laws.Tails.{tail-made}
-use Rattle.frame.specs.Inner.{Opened, Held, BodyTold, FrameTold, madeReading}
+use Rattle.frame.specs.Inner.{NormsRead, CodesAndTail, BodyRead, FrameRead, madeReading}
 use Rattle.frame.proofs.Laws.Reads.{never-done, norms-refused, norms-opened, read-started, data-cut, data-whole, field-sized, field-mode}
 use Rattle.frame.proofs.Laws.Reads.{body-part, length-body}
 use Rattle.kinds.specs.declared.Flags.{Flags}
@@ -51,10 +51,10 @@ use Rattle.frame.specs.declared.Reading.{Reading}
 
 -- what is known once the kinds are: the norms end at p, k bits are left for the noise
 pub record Rest (s : List ℕ) (f : Flags) (ns : List ℕ) (p k : ℕ) (ks : List ℕ) : Type 0 where
-  pub opened : Opened s ns p
+  pub opened : NormsRead s ns p
   pub flagged : f ≡ flagsOf (view s 0 4)
-  pub spared : k ≡ spare (f .transient)
-  pub kinded : ks ≡ kindsAt (f .transient) (wideIn (length s * 8) (f .l)) (f .c) ns (length s * 8 - p - spare (f .transient))
+  pub spared : k ≡ noiseBits (f .transient)
+  pub kinded : ks ≡ kindsAt (f .transient) (allCompete (length s * 8) (f .l)) (f .c) ns (length s * 8 - p - noiseBits (f .transient))
 
 -- what a run that is done gave: the codes stand in cs and end at q
 pub record Ended (s : List ℕ) (p k : ℕ) (ks : List ℕ) (q : ℕ) (cs : List ℕ) : Type 0 where
@@ -66,11 +66,11 @@ module _ {s : List ℕ} {f : Flags} {ns : List ℕ} {p k : ℕ} {ks : List ℕ} 
   abbrev end : ℕ
   end = length s * 8
 
-  abbrev O : Opened s ns p
+  abbrev O : NormsRead s ns p
   O = R .opened
 
-  spare-is : k ≡ spare (isTransient (view s 0 4))
-  spare-is = R .spared ∙ ap (λ (g : Flags). spare (g .transient)) (R .flagged)
+  spare-is : k ≡ noiseBits (isTransient (view s 0 4))
+  spare-is = R .spared ∙ ap (λ (g : Flags). noiseBits (g .transient)) (R .flagged)
 
   inside : p ≤ end
   inside = omega (arith, O .room)
@@ -81,8 +81,8 @@ module _ {s : List ℕ} {f : Flags} {ns : List ℕ} {p k : ℕ} {ks : List ℕ} 
   kinds-are : ks ≡ kindsOf end (view s 0 4) ns
   unfolding kindsOf
   kinds-are =
-      R .kinded ∙ ap (λ (g : Flags). kindsAt (g .transient) (wideIn end (g .l)) (g .c) ns (end - p - spare (g .transient))) (R .flagged)
-      ∙ ap (kindsAt (isTransient (view s 0 4)) (wideIn end (flagL (view s 0 4))) (flagC (view s 0 4)) ns)
+      R .kinded ∙ ap (λ (g : Flags). kindsAt (g .transient) (allCompete end (g .l)) (g .c) ns (end - p - noiseBits (g .transient))) (R .flagged)
+      ∙ ap (kindsAt (isTransient (view s 0 4)) (allCompete end (flagL (view s 0 4))) (flagC (view s 0 4)) ns)
       (budget-is s end (O .four) ns p (O .said) (O .far) inside)
 
   pub kinds-800 : length ks ≡ 800
@@ -94,11 +94,11 @@ module _ {s : List ℕ} {f : Flags} {ns : List ℕ} {p k : ℕ} {ks : List ℕ} 
   body-is mode a g = ap (λ (b : List Bool). outcome mode (frame end .read b)) (sym (view-bits s)) ∙ ap (outcome mode) g
 
   pub noise-small : {z : ℕ} (q : ℕ) → z ≡ val (view s q (min k 16)) → z < 256
-  noise-small q e = rw e (lt-of-lt-of-le (view-lt s q (min k 16)) (pow-mono {j = 8} (omega (arith, R .spared, spare-le (f .transient)))))
+  noise-small q e = rw e (lt-of-lt-of-le (view-lt s q (min k 16)) (pow-mono {j = 8} (omega (arith, R .spared, noise-le (f .transient)))))
 
   -- the codes are refused
   pub rest-refused : {u : Run} {x : Refusal} {r : Reading} {n : ℕ} {cs : List ℕ} (mode : ℕ) → u ≡ run.No x → u ≡ ran p (end - k - p) (runAt s p (end - k) ks)
-      → n ≡ runReply u → r ≡ stoppedAt n 0 → BodyTold s (readBody mode s) r cs
+      → n ≡ runReply u → r ≡ stoppedAt n 0 → BodyRead s (readBody mode s) r cs
   rest-refused {x = x} {r = r} mode e d en er =
       let g = run-not p (end - k - p) (runAt s p (end - k) ks) x (sym e ∙ d) in
       let b = body-is mode (no x) (frame-not s end (O .four) ns p (O .said) (O .far) inside k spare-is ks kinds-are rest-room x g) in
@@ -130,7 +130,7 @@ module _ {s : List ℕ} {f : Flags} {ns : List ℕ} {p k : ℕ} {ks : List ℕ} 
     unfolding found
     rest-reading {z = z} mode es ez er =
         let t = length s * 8 - (q + k) in
-        let m : min k 16 ≡ k = omega (arith, R .spared, spare-le (f .transient)) in
+        let m : min k 16 ≡ k = omega (arith, R .spared, noise-le (f .transient)) in
         er
         ∙ ap (λ (g : Flags). madeReading mode (length s + 1) g ns z t) (R .flagged)
         ∙ ap (λ (x : ℕ). madeReading mode (x + 1) (flagsOf (view s 0 4)) ns z t) es
@@ -139,7 +139,7 @@ module _ {s : List ℕ} {f : Flags} {ns : List ℕ} {p k : ℕ} {ks : List ℕ} 
         ∙ ap readingOf (sym (body-got mode))
 
     pub rest-told : {r : Reading} {z : ℕ} (mode : ℕ) → length s ≤ 320 → length s ≡ modeBytes mode → z ≡ val (view s q (min k 16))
-        → r ≡ madeReading mode (length s + 1) f ns z (length s * 8 - (q + k)) → BodyTold s (readBody mode s) r cs
+        → r ≡ madeReading mode (length s + 1) f ns z (length s * 8 - (q + k)) → BodyRead s (readBody mode s) r cs
     unfolding found
     rest-told {r = r} mode small es ez er =
         let n : r .«record» .«tail_bits» ≡ length s * 8 - (q + k) = ap (λ (y : Reading). y .«record» .«tail_bits») er in
@@ -162,7 +162,7 @@ module _ {s : List ℕ} {f : Flags} {ns : List ℕ} {p k : ℕ} {ks : List ℕ} 
 -- ---- what the stages hand on
 
 -- a refusal holds nothing
-body-stops : {s : List ℕ} {o : Outcome} {r : Reading} {x : ℕ} {cs : List ℕ} → o ≡ refused x → (x ≡ 0 → ⊥) → r ≡ stoppedAt x 0 → BodyTold s o r cs
+body-stops : {s : List ℕ} {o : Outcome} {r : Reading} {x : ℕ} {cs : List ℕ} → o ≡ refused x → (x ≡ 0 → ⊥) → r ≡ stoppedAt x 0 → BodyRead s o r cs
 body-stops e n er = record { reading = er ∙ ap readingOf (sym e); held = λ z. absurd (n (sym (ap (λ (y : Reading). y .reply) er) ∙ z)) }
 
 -- flags and norms, as the code reads them
@@ -171,22 +171,22 @@ module _ (s : List ℕ) {f : Flags} {n : NormPart} (long : 80 ≤ length s) (ef 
   norms-said : n ≡ partOf 4 (length s * 8 - 4) (normPart (isTransient (view s 0 4)) (flagN (view s 0 4)) .read (view s 4 (length s * 8 - 4)))
   norms-said = en ∙ ap (λ (g : Flags). partOf 4 (length s * 8 - 4) (normPart (g .transient) (g .n) .read (view s 4 (length s * 8 - 4)))) ef
 
-  pub norms-stop : {r : Reading} {cs : List ℕ} (mode : ℕ) → (n .reply ≡ 0 → ⊥) → r ≡ stoppedAt (n .reply) 0 → BodyTold s (readBody mode s) r cs
+  pub norms-stop : {r : Reading} {cs : List ℕ} (mode : ℕ) → (n .reply ≡ 0 → ⊥) → r ≡ stoppedAt (n .reply) 0 → BodyRead s (readBody mode s) r cs
   norms-stop mode z er = body-stops (norms-refused s long n norms-said z mode) z er
 
-  pub norms-open : n .reply ≡ 0 → Opened s (n .norms) (n .next)
+  pub norms-open : n .reply ≡ 0 → NormsRead s (n .norms) (n .next)
   norms-open z = norms-opened s long n norms-said z
 
 frame-stops : {src : List ℕ} {o : Outcome} {r : Reading} {x n : ℕ} {cs : List ℕ} → readingOf o ≡ stoppedAt x n → (x ≡ 0 → ⊥) → r ≡ stoppedAt x n
-    → FrameTold src o r cs
+    → FrameRead src o r cs
 frame-stops e n er = record { reading = er ∙ sym e; held = λ z. absurd (n (sym (ap (λ (y : Reading). y .reply) er) ∙ z)) }
 
 -- what a body of n bytes tells, the frame tells
-pub frame-told : {src s : List ℕ} {o u : Outcome} {r : Reading} {cs : List ℕ} (n : ℕ) → n < length src → s ≡ bodyOf n src → u ≡ o → BodyTold s u r cs
-    → FrameTold src o r cs
+pub frame-told : {src s : List ℕ} {o u : Outcome} {r : Reading} {cs : List ℕ} (n : ℕ) → n < length src → s ≡ bodyOf n src → u ≡ o → BodyRead s u r cs
+    → FrameRead src o r cs
 frame-told {src} {s} {o} {u} {r} {cs} n h es eu B = record { reading = B .reading ∙ ap readingOf eu; held = go }
   where
-    go : r .reply ≡ 0 → (r .next ≤ length src) × Held (bodyOf (r .next - 1) src) o r cs
+    go : r .reply ≡ 0 → (r .next ≤ length src) × CodesAndTail (bodyOf (r .next - 1) src) o r cs
     go z =
         let H = B .held z in
         let l = ap length es ∙ length-body src n h in
@@ -200,7 +200,7 @@ pub record Ready (s : List ℕ) (m : ℕ) : Type 0 where
   pub mode : length s ≡ modeBytes m
 
 module _ (src : List ℕ) (f : Length) {n : ℕ} (en : n ≡ lengthBytes (f .0)) where
-  pub data-stops : {r : Reading} {cs : List ℕ} → length src ≤ n → r ≡ stoppedAt cut 0 → FrameTold src (started (Data f) src) r cs
+  pub data-stops : {r : Reading} {cs : List ℕ} → length src ≤ n → r ≡ stoppedAt cut 0 → FrameRead src (started (Data f) src) r cs
   data-stops h er = frame-stops (ap readingOf (data-cut src f n en h)) (λ z. omega arith) er
 
   module _ {named : NamedMode} {m : Mode} (ep : Data f ≡ prefixOf src) (h : n < length src) (e : named ≡ modeOf (f .0)) (em : named ≡ named-mode.Is m) where
@@ -213,28 +213,28 @@ module _ (src : List ℕ) (f : Length) {n : ℕ} (en : n ≡ lengthBytes (f .0))
         let l = ap length (body-part src n h) ∙ length-body src n h in
         record { least = omega (arith, l, z .least); most = omega (arith, l, z .most); mode = l ∙ z .mode ∙ ap modeBytes (sym mode-is) }
 
-    pub data-told : {r : Reading} {cs : List ℕ} → BodyTold (take (n + 1 - 1) (drop 1 src)) (readBody (m .0) (take (n + 1 - 1) (drop 1 src))) r cs
-        → FrameTold src (started (Data f) src) r cs
+    pub data-told : {r : Reading} {cs : List ℕ} → BodyRead (take (n + 1 - 1) (drop 1 src)) (readBody (m .0) (take (n + 1 - 1) (drop 1 src))) r cs
+        → FrameRead src (started (Data f) src) r cs
     data-told B =
         let p = body-part src n h in
         frame-told n h p (ap₂ readBody mode-is p ∙ sym (data-whole src f n en h)) B
 
 -- what a prefix tells that is the slice's own
-pub prefix-told : {src : List ℕ} {p : Prefix} {r : Reading} {cs : List ℕ} → p ≡ prefixOf src → FrameTold src (started p src) r cs
-    → FrameTold src (started (prefixOf src) src) r cs
+pub prefix-told : {src : List ℕ} {p : Prefix} {r : Reading} {cs : List ℕ} → p ≡ prefixOf src → FrameRead src (started p src) r cs
+    → FrameRead src (started (prefixOf src) src) r cs
 prefix-told e F = rw (← e) F
 
 module _ {src : List ℕ} {p : Prefix} {r : Reading} {cs : List ℕ} (ep : p ≡ prefixOf src) where
-  pub stops-no-byte : p ≡ NoByte → r ≡ stoppedAt noByte 0 → FrameTold src (started (prefixOf src) src) r cs
+  pub stops-no-byte : p ≡ NoByte → r ≡ stoppedAt noByte 0 → FrameRead src (started (prefixOf src) src) r cs
   stops-no-byte e er = prefix-told (sym e ∙ ep) (frame-stops refl (λ z. omega arith) er)
 
-  pub stops-marked : p ≡ Marked → r ≡ stoppedAt marked 0 → FrameTold src (started (prefixOf src) src) r cs
+  pub stops-marked : p ≡ Marked → r ≡ stoppedAt marked 0 → FrameRead src (started (prefixOf src) src) r cs
   stops-marked e er = prefix-told (sym e ∙ ep) (frame-stops refl (λ z. omega arith) er)
 
-  pub stops-reserved : p ≡ Reserved → r ≡ stoppedAt reserved 0 → FrameTold src (started (prefixOf src) src) r cs
+  pub stops-reserved : p ≡ Reserved → r ≡ stoppedAt reserved 0 → FrameRead src (started (prefixOf src) src) r cs
   stops-reserved e er = prefix-told (sym e ∙ ep) (frame-stops refl (λ z. omega arith) er)
 
-  pub stops-no-data : p ≡ NoData → r ≡ stoppedAt noData 1 → FrameTold src (started (prefixOf src) src) r cs
+  pub stops-no-data : p ≡ NoData → r ≡ stoppedAt noData 1 → FrameRead src (started (prefixOf src) src) r cs
   stops-no-data e er = prefix-told (sym e ∙ ep) (frame-stops refl (λ z. omega arith) er)
 
 -- ---- what is given out
@@ -251,21 +251,21 @@ pub record Placed (src : List ℕ) (r : Reading) : Type 0 where
   pub tail : r .«record» .«tail_bits» ≤ (r .next - 1) * 8
 
 module _ {src : List ℕ} {r : Reading} {cs : List ℕ} where
-  stopped-of : {o a : Outcome} {c t : List ℕ} → a ≡ o → FrameTold src o r cs → (r .reply ≡ 0 → ⊥) → Given a c c t t r
+  stopped-of : {o a : Outcome} {c t : List ℕ} → a ≡ o → FrameRead src o r cs → (r .reply ≡ 0 → ⊥) → Given a c c t t r
   stopped-of {o = refused x} e F n = (rw e (F .reading), (rw e), (rw e))
   stopped-of {o = empty} e F n = (rw e (F .reading), (rw e), (rw e))
   stopped-of {o = sound mode x} e F n = absurd (n (ap (λ (y : Reading). y .reply) (F .reading)))
 
-  body-long : {o : Outcome} → FrameTold src o r cs → r .reply ≡ 0 → length (bodyOf (r .next - 1) src) ≡ r .next - 1
+  body-long : {o : Outcome} → FrameRead src o r cs → r .reply ≡ 0 → length (bodyOf (r .next - 1) src) ≡ r .next - 1
   body-long F z = omega (arith, F .held z .1 .next)
 
-  pub given-place : {o : Outcome} → FrameTold src o r cs → r .reply ≡ 0 → Placed src r
+  pub given-place : {o : Outcome} → FrameRead src o r cs → r .reply ≡ 0 → Placed src r
   given-place F z =
       let H = F .held z .1 in
       record { one = omega (arith, H .next); inside = F .held z .0; near = omega (arith, H .next, H .small); tail = omega (arith, body-long F z, H .inside) }
 
   -- with room enough the frame decides, and only a reading of 0 changes lent memory
-  module _ (c₀ t₀ : List ℕ) (h : 800 ≤ length c₀) (l : 320 ≤ length t₀) (F : FrameTold src (started (prefixOf src) src) r cs) where
+  module _ (c₀ t₀ : List ℕ) (h : 800 ≤ length c₀) (l : 320 ≤ length t₀) (F : FrameRead src (started (prefixOf src) src) r cs) where
     pub given-stopped : (r .reply ≡ 0 → ⊥) → Given (readAnswer src (length c₀) (length t₀)) c₀ c₀ t₀ t₀ r
     given-stopped n = stopped-of (read-started src _ _ h l _ refl) F n
 

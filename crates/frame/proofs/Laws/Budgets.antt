@@ -9,7 +9,7 @@ use Rattle.prefix.proofs.Laws.Sizes.{mode-bounds}
 use Rattle.norms.specs.Part.{Writable}
 use Rattle.norms.proofs.Laws.Part.{norm-bits}
 use Rattle.frame.specs.Layout.{isTransient, flagN, budgetOf}
-use Rattle.kinds.proofs.Laws.Budget.{spare-le}
+use Rattle.kinds.proofs.Laws.Budget.{noise-le}
 
 -- Ψ is 640 − 4 − 306 − 2 = 328 to 2,560 − 4 − 134 = 2,422
 pub budget-range : (mode : ℕ) (flags : List Bool) (norms : List ℕ) → mode < 20 → Writable (isTransient flags) norms
@@ -18,5 +18,5 @@ unfolding budgetOf
 budget-range mode flags norms h w =
     let n = norm-bits (isTransient flags) (flagN flags) norms w in
     let b = mode-bounds mode h in
-    let s = spare-le (isTransient flags) in
+    let s = noise-le (isTransient flags) in
     (omega (arith, n .1, b .0, s), omega (arith, n .0, b .1))

@@ -8,14 +8,14 @@ use native.Mathlib.Omega.{arith}
 use lib.ListN.{length, length-append}
 use Rattle.bits.specs.Codings.{fixed, got, wordOf}
 use Rattle.bits.specs.Codecs.{words, raw, writeAll}
-use Rattle.bits.proofs.Laws.Numbers.{length-word}
+use Rattle.bits.proofs.Laws.NumbersAsBits.{length-word}
 use Rattle.bits.proofs.Laws.Codings.{word-fixed}
 use Rattle.bits.proofs.Laws.Codecs.{Lawful, coded-lawful, words-lawful, raw-lawful, within-lawful, pair-lawful}
 use Rattle.words.specs.Tables.{coding}
 use Rattle.words.proofs.Laws.Tables.{all-good}
 use Rattle.norms.specs.Part.{normPart, normBits}
 use Rattle.norms.proofs.Laws.Codec.{norms-lawful, write-is}
-use Rattle.kinds.specs.Budget.{spare}
+use Rattle.kinds.specs.Budget.{noiseBits}
 use Rattle.frame.specs.Layout.{Ending, Frame, flagsIn, normsIn, codesIn, noiseIn, tailIn, isTransient, flagN, budgetOf, kindsOf, codeBits, tailLeft}
 use Rattle.frame.specs.Layout.{codesPart, endingPart, restPart, normsAndRest, frame}
 
@@ -28,12 +28,12 @@ module _ (total : ℕ) where
 
   ending-lawful : (flags : List Bool) (norms codes : List ℕ) → Lawful 0 (endingPart total flags norms codes)
   ending-lawful flags norms codes =
-      pair-lawful (coded-lawful (fixed (spare (isTransient flags))) tt) (λ z. raw-lawful (tailLeft total flags norms codes)) (λ a b f. zero-le)
+      pair-lawful (coded-lawful (fixed (noiseBits (isTransient flags))) tt) (λ z. raw-lawful (tailLeft total flags norms codes)) (λ a b f. zero-le)
 
   ending-long : (flags : List Bool) (norms codes : List ℕ) (e : Ending) → endingPart total flags norms codes .Ok e
-      → spare (isTransient flags) ≤ length (endingPart total flags norms codes .write e)
+      → noiseBits (isTransient flags) ≤ length (endingPart total flags norms codes .write e)
   ending-long flags norms codes e k =
-      let n = spare (isTransient flags) in
+      let n = noiseBits (isTransient flags) in
       omega (
         arith,
         length-append (wordOf (fixed n) (e .0)) (raw (tailLeft total flags norms codes) .write (e .1)),
@@ -43,7 +43,7 @@ module _ (total : ℕ) where
 
   rest-lawful : (flags : List Bool) (norms : List ℕ) → Lawful 0 (restPart total flags norms)
   rest-lawful flags norms =
-      pair-lawful (within-lawful (spare (isTransient flags)) (codes-lawful flags norms)) (ending-lawful flags norms) (ending-long flags norms)
+      pair-lawful (within-lawful (noiseBits (isTransient flags)) (codes-lawful flags norms)) (ending-lawful flags norms) (ending-long flags norms)
 
   norms-rest-lawful : (flags : List Bool) → Lawful 0 (normsAndRest total flags)
   norms-rest-lawful flags = pair-lawful (norms-lawful (isTransient flags) (flagN flags)) (rest-lawful flags) (λ a b f. zero-le)
@@ -62,13 +62,13 @@ module _ (total : ℕ) where
   pub frame-bits : (x : Frame) → frame total .Ok x
       → length (frame total .write x) ≡ 4 + (length (normBits (isTransient (flagsIn x)) (flagN (flagsIn x)) (normsIn x))
       + (length (codeBits total (flagsIn x) (normsIn x) (codesIn x))
-      + (spare (isTransient (flagsIn x)) + tailLeft total (flagsIn x) (normsIn x) (codesIn x))))
+      + (noiseBits (isTransient (flagsIn x)) + tailLeft total (flagsIn x) (normsIn x) (codesIn x))))
   unfolding frame codesPart words codeBits
   frame-bits x k =
       let f = flagsIn x in
       let ns = normsIn x in
       let vs = codesIn x in
-      let n = spare (isTransient f) in
+      let n = noiseBits (isTransient f) in
       let a = raw 4 .write f in
       let b = normPart (isTransient f) (flagN f) .write ns in
       let c = writeAll (map coding (kindsOf total f ns)) vs in

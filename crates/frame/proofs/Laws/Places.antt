@@ -19,7 +19,7 @@ use Rattle.runs.specs.Runs.{runAt}
 use Rattle.norms.specs.Part.{normPart, normBits}
 use Rattle.norms.proofs.Laws.Codec.{norms-there}
 use Rattle.frame.specs.Layout.{isTransient, flagN, budgetOf, kindsOf, codeBits, tailLeft, codesPart, endingPart, frame}
-use Rattle.kinds.specs.Budget.{spare}
+use Rattle.kinds.specs.Budget.{noiseBits}
 
 -- ---- parts of codecs at a place
 
@@ -74,11 +74,11 @@ module _ (s : List ℕ) (end : ℕ) (four : 4 ≤ end) where
         let l = view-rest s 4 (end - 4) (normBits (isTransient (view s 0 4)) (flagN (view s 0 4)) ns) (view s p (end - p)) (w .0) .1 in
         omega (arith, length-view s p (end - p))
 
-    pub budget-is : end - p - spare (isTransient (view s 0 4)) ≡ budgetOf end (view s 0 4) ns
+    pub budget-is : end - p - noiseBits (isTransient (view s 0 4)) ≡ budgetOf end (view s 0 4) ns
     unfolding budgetOf
-    budget-is = ap (λ (n : ℕ). end - n - spare (isTransient (view s 0 4))) (sym norms-end)
+    budget-is = ap (λ (n : ℕ). end - n - noiseBits (isTransient (view s 0 4))) (sym norms-end)
 
-    -- with k spare bits
+    -- with k noiseBits bits
     module _ (k : ℕ) (ks : List ℕ) (es : ks ≡ kindsOf end (view s 0 4) ns) (room : p + k ≤ end) where
       codes-at : codesPart end (view s 0 4) ns .read (view s p (end - k - p)) ≡ runAt s p (end - k) ks
       unfolding codesPart words runAt
@@ -97,7 +97,7 @@ module _ (s : List ℕ) (end : ℕ) (four : 4 ≤ end) where
             fixed-fine s q k (end - q) (omega arith) ∙ ap (λ (n : ℕ). got (val (view s q k)) (view s (q + k) n)) z
 
     abbrev K : ℕ
-    K = spare (isTransient (view s 0 4))
+    K = noiseBits (isTransient (view s 0 4))
 
     module _ (ks : List ℕ) (es : ks ≡ kindsOf end (view s 0 4) ns) (room : p + K ≤ end) where
       not-K : (x : Refusal) → runAt s p (end - K) ks ≡ no x → frame end .read (view s 0 end) ≡ no x
@@ -133,7 +133,7 @@ module _ (s : List ℕ) (end : ℕ) (four : 4 ≤ end) where
     Not k =
         (ks : List ℕ) → ks ≡ kindsOf end (view s 0 4) ns → p + k ≤ end → (x : Refusal) → runAt s p (end - k) ks ≡ no x → frame end .read (view s 0 end) ≡ no x
 
-    pub frame-not : (k : ℕ) → k ≡ spare (isTransient (view s 0 4)) → Not k
+    pub frame-not : (k : ℕ) → k ≡ noiseBits (isTransient (view s 0 4)) → Not k
     frame-not k ek = subst⁻¹ Not ek not-K
 
     -- the whole frame
@@ -143,5 +143,5 @@ module _ (s : List ℕ) (end : ℕ) (four : 4 ≤ end) where
         → q + k ≤ end → p + length (writeAll (map coding ks) vs) ≡ q
         → frame end .read (view s 0 end) ≡ got (view s 0 4, (ns, (vs, (val (view s q k), view s (q + k) (end - (q + k)))))) []
 
-    pub frame-got : (k : ℕ) → k ≡ spare (isTransient (view s 0 4)) → Got k
+    pub frame-got : (k : ℕ) → k ≡ noiseBits (isTransient (view s 0 4)) → Got k
     frame-got k ek = subst⁻¹ Got ek got-K

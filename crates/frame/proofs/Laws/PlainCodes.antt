@@ -10,20 +10,21 @@ use lib.Dec.{ltb}
 use lib.ListN.{length, getD, take, drop, length-append, length-map, List·getD-append}
 use lib.Seq.{length-take-le}
 use borrow.Author.Tests.{ltb-true, ltb-false}
-use Rattle.ground.specs.Cases.{by-bool}
+use Rattle.ground.proofs.Laws.Cases.{by-bool}
 use Rattle.ground.specs.Replies.{normOutside, noWord, pastBudget}
 use Rattle.ground.specs.Sums.{nth}
 use Rattle.ground.proofs.Laws.Sums.{sumOf}
 use Rattle.bits.specs.Bits.{bitsOf, word}
 use Rattle.bits.proofs.Laws.Bytes.{length-bits}
-use Rattle.bits.proofs.Laws.Numbers.{length-word}
+use Rattle.bits.proofs.Laws.NumbersAsBits.{length-word}
 use Rattle.bits.specs.Codings.{Coding, fixed, Answer, got, no, wordOf, replyOf}
 use Rattle.bits.proofs.Laws.Codings.{word-unword, word-fixed}
 use Rattle.bits.specs.Codecs.{coded, words, raw, within, readAll, writeAll}
-use Rattle.bits.proofs.Laws.Sure.{fixed-sure, read-sure, all-fixed, fixed-bits, NormAlone, sound-alone, coded-alone, raw-alone, pair-alone, within-alone}
+use Rattle.bits.proofs.Laws.NeverRefused.{fixed-never-refused, read-never-refused, all-fixed, fixed-bits}
+use Rattle.bits.proofs.Laws.NeverRefused.{NormAlone, sound-alone, coded-alone, raw-alone, pair-alone, within-alone}
 use Rattle.words.specs.Tables.{coding}
 use Rattle.bits.proofs.Laws.Codecs.{raw-lawful, within-lawful, fit-length}
-use Rattle.words.proofs.Laws.Sure.{fixed-kinds}
+use Rattle.words.proofs.Laws.NeverRefused.{fixed-kinds}
 use Rattle.weights.specs.Weights.{nthZ, scoresOf}
 use Rattle.contest.specs.Bands.{lengthOf, competing}
 use Rattle.contest.specs.Fairness.{Fair}
@@ -37,12 +38,12 @@ use Rattle.norms.specs.Part.{Writable, normBits, normPart}
 use Rattle.norms.proofs.Laws.Codec.{norms-there}
 use Rattle.norms.proofs.Laws.Part.{norm-bits}
 use Rattle.norms.proofs.Laws.Answers.{writable-range}
-use Rattle.norms.proofs.Laws.Sure.{norms-alone}
+use Rattle.norms.proofs.Laws.NeverRefused.{norms-alone}
 use Rattle.kinds.specs.Kinds.{kinds}
 use Rattle.frame.specs.Layout.{Frame, isTransient, flagL, flagN, flagC, budgetOf, kindsOf, codeBits, tailLeft, codesPart, endingPart}
 use Rattle.frame.specs.Layout.{restPart, normsAndRest, frame}
-use Rattle.kinds.specs.Budget.{spare, wideIn, kindsAt}
-use Rattle.kinds.proofs.Laws.Budget.{spare-le}
+use Rattle.kinds.specs.Budget.{noiseBits, allCompete, kindsAt}
+use Rattle.kinds.proofs.Laws.Budget.{noise-le}
 use Rattle.kinds.proofs.Laws.Fixed.{kinds-sum, kinds-small}
 use Rattle.frame.proofs.Laws.Layout.{codes-lawful}
 use Rattle.frame.proofs.Laws.Reads.{read-codes-short, read-tail-short, read-started, data-cut, data-whole, length-body, field-sized}
@@ -56,7 +57,7 @@ module _ (total : ℕ) (flags : List Bool) (norms : List ℕ) (c : flagC flags �
   t = isTransient flags
 
   abbrev wide : Bool
-  wide = wideIn total (flagL flags)
+  wide = allCompete total (flagL flags)
 
   abbrev budget : ℕ
   budget = budgetOf total flags norms
@@ -91,23 +92,23 @@ module _ (total : ℕ) (flags : List Bool) (norms : List ℕ) (c : flagC flags �
   codes-alone : (u : List Bool) → budgetOf total flags norms ≤ length u → NormAlone (codesPart total flags norms .read u)
   unfolding codesPart words
   codes-alone u h =
-      let (vs, r, g) = read-sure ks (map fixed ks) (all-fixed ks) u (omega (arith, paid)) in
+      let (vs, r, g) = read-never-refused ks (map fixed ks) (all-fixed ks) u (omega (arith, paid)) in
       sound-alone (readAll (map coding ks) u) vs r (ap (λ (cs : List Coding). readAll cs u) all-plain ∙ g)
 
-  ending-alone : (vs : List ℕ) (r : List Bool) → spare (isTransient flags) + tailLeft total flags norms vs ≤ length r
+  ending-alone : (vs : List ℕ) (r : List Bool) → noiseBits (isTransient flags) + tailLeft total flags norms vs ≤ length r
       → NormAlone (endingPart total flags norms vs .read r)
   ending-alone vs r l =
-      let n = spare t in
+      let n = noiseBits t in
       let m = tailLeft total flags norms vs in
-      pair-alone (coded (fixed n)) (λ z. raw m) r (coded-alone n (fixed n) (fixed-sure n) r (omega arith))
+      pair-alone (coded (fixed n)) (λ z. raw m) r (coded-alone n (fixed n) (fixed-never-refused n) r (omega arith))
       (λ z q e.
       raw-alone m q
       (omega (arith, ap length (word-unword (fixed n) r z q e .0), length-append (wordOf (fixed n) z) q, ap length (word-fixed n z), length-word n z)))
 
-  rest-alone : (q : List Bool) → length q ≡ budgetOf total flags norms + spare (isTransient flags) → NormAlone (restPart total flags norms .read q)
+  rest-alone : (q : List Bool) → length q ≡ budgetOf total flags norms + noiseBits (isTransient flags) → NormAlone (restPart total flags norms .read q)
   unfolding tailLeft codeBits codesPart words
   rest-alone q l =
-      let n = spare t in
+      let n = noiseBits t in
       let part = codesPart total flags norms in
       let m = length q - n in
       pair-alone (within n part) (endingPart total flags norms) q
@@ -134,7 +135,7 @@ module _ (total : ℕ) (least : 640 ≤ total) (most : total ≤ 2560) where
       (λ norms q e.
       let o = norms-there t n r norms q e in
       let b = norm-bits t n norms (o .1) .1 in
-      rest-alone total flags norms c (o .1) (omega arith) q (omega (arith, ap length (o .0), length-append (normBits t n norms) q, b, spare-le t)))
+      rest-alone total flags norms c (o .1) (omega arith) q (omega (arith, ap length (o .0), length-append (normBits t n norms) q, b, noise-le t)))
 
   frame-alone : (b : List Bool) → length b ≡ total → getD b 3 false ≡ false → NormAlone (frame total .read b)
   unfolding frame raw

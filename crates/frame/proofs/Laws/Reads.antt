@@ -31,10 +31,10 @@ use Rattle.prefix.specs.declared.Length.{Length}
 use Rattle.prefix.specs.declared.Mode.{Mode}
 use Rattle.prefix.specs.declared.NamedMode.the-variants as named-mode
 use Rattle.frame.specs.Layout.{isTransient, flagN, frame}
-use Rattle.kinds.proofs.Laws.Budget.{spare-le}
+use Rattle.kinds.proofs.Laws.Budget.{noise-le}
 use Rattle.frame.proofs.Laws.Places.{frame-no}
 use Rattle.frame.specs.Answers.{refused, outcome, readBody, bodyOf, started, readAnswer, flagsOf}
-use Rattle.frame.specs.Inner.{Opened}
+use Rattle.frame.specs.Inner.{NormsRead}
 
 -- ---- flags
 
@@ -78,7 +78,7 @@ module _ (s : List ℕ) (long : 80 ≤ length s) (n : NormPart)
   pub norms-refused : (n .reply ≡ 0 → ⊥) → (mode : ℕ) → readBody mode s ≡ refused (n .reply)
   norms-refused z mode = refused-of read refl e z mode
 
-  opened-of : (a : Answer (List ℕ)) → read ≡ a → n ≡ partOf 4 (length s * 8 - 4) a → n .reply ≡ 0 → Opened s (n .norms) (n .next)
+  opened-of : (a : Answer (List ℕ)) → read ≡ a → n ≡ partOf 4 (length s * 8 - 4) a → n .reply ≡ 0 → NormsRead s (n .norms) (n .next)
   opened-of (no x) q g z = absurd (never-done x (sym (ap (λ (y : NormPart). y .reply) g) ∙ z))
   opened-of (got ns r) q g z =
       let t = isTransient (view s 0 4) in
@@ -95,10 +95,10 @@ module _ (s : List ℕ) (long : 80 ≤ length s) (n : NormPart)
         far = omega arith;
         near = omega (arith, l .1);
         four = omega arith;
-        room = omega (arith, l .1, spare-le t);
+        room = omega (arith, l .1, noise-le t);
       }
 
-  pub norms-opened : n .reply ≡ 0 → Opened s (n .norms) (n .next)
+  pub norms-opened : n .reply ≡ 0 → NormsRead s (n .norms) (n .next)
   norms-opened z = opened-of read refl e z
 
 -- ---- the whole reading

@@ -7,8 +7,9 @@ use native.Mathlib.Nat.{add-zero, zero-add, add-suc, suc-mul, zero-mul}
 use native.Mathlib.Omega.{arith}
 use lib.ListN.{length, take, drop, getD, length-append}
 use lib.Seq.{drop-append-add, take-at, drop-at}
-use Rattle.ground.specs.Fills.{table, from, filled}
-use Rattle.ground.proofs.Laws.Fills.{table-same}
+use Rattle.ground.specs.ListsByRule.{table, from}
+use Rattle.ground.proofs.Laws.ListsByRule.{filled}
+use Rattle.ground.proofs.Laws.ListsByRule.{table-same}
 use Rattle.ground.specs.Runs.{runs}
 use Rattle.ground.proofs.Laws.Runs.{runs-none, runs-more, runs-add, runs-front, runs-same}
 use Rattle.ground.specs.Replies.{done}
@@ -21,10 +22,10 @@ use Rattle.recording.proofs.Laws.Walk.{walk-end, ahead-stopped}
 use Rattle.recording.specs.Units.{Units, none, more}
 use Rattle.recording.proofs.Laws.Units.{walk-units}
 use Rattle.recording.specs.Frames.{Stored, Frames}
-use Rattle.recording.proofs.Laws.Frames.{frame-lawful, sound-says, bare-says, first-bare}
+use Rattle.recording.proofs.Laws.Frames.{frame-unit, sound-says, bare-says, first-bare}
 use Rattle.recording.specs.Blocks.{Blocks}
 use Rattle.recording.specs.declared.answer.Check.{Check}
-use Rattle.frames.specs.Places.{saidBytes, sizeAt, placeFrom, placeOf, frameAt, framesOf, flat}
+use Rattle.frames.specs.Places.{saidBytes, sizeAt, placeFrom, placeOf, frameAt, framesOf, concatenated}
 use Rattle.frames.proofs.Laws.Places.{size-said, place-more, place-add, place-none}
 
 -- ---- the frame at the start
@@ -45,7 +46,7 @@ pub frame-size : (s : List ℕ) (k : ℕ) → frameStep s ≡ passes k → sizeA
 frame-size s k e = size-of s k (storedAt s) refl e
 
 pub stored-size : (f rest : List ℕ) → Stored f → sizeAt (f ++ rest) ≡ length f
-stored-size f rest a = frame-size (f ++ rest) (length f) (frame-lawful .front f rest a)
+stored-size f rest a = frame-size (f ++ rest) (length f) (frame-unit .front f rest a)
 
 pub frame-first : (f s : List ℕ) → Stored f → frameAt (f ++ s) 0 ≡ f
 unfolding placeFrom
@@ -156,32 +157,32 @@ one-plus k = omega arith
 
 frames-long : {k : ℕ} {s : List ℕ} → Frames k s → k ≤ length s
 frames-long none = omega arith
-frames-long (more {k} {f} {s} a fs) = omega (arith, frames-long fs, frame-lawful .some f a, length-append f s)
+frames-long (more {k} {f} {s} a fs) = omega (arith, frames-long fs, frame-unit .some f a, length-append f s)
 
 pub frames-of : {k : ℕ} {s : List ℕ} → Frames k s → framesOf s ≡ table k (frameAt s)
 unfolding framesOf
 frames-of {k} {s} fs =
     let w : walk (length s) s ≡ ahead k (length s) (walk (length s - k) []) = ap (walk (length s)) (sym (append-nil s))
-    ∙ walk-units frame-lawful (length s) [] fs (frames-long fs) in
+    ∙ walk-units frame-unit (length s) [] fs (frames-long fs) in
     let c : walk (length s) s .count ≡ k =
     ap (λ (x : Check). x .count) (w ∙ ap (ahead k (length s)) (walk-end frameStep (length s - k) [] refl) ∙ ahead-stopped k (length s) done) in
     ap (λ (n : ℕ). table n (frameAt s)) c
 
-table-flat : (g : ℕ → List ℕ) (n i : ℕ) → flat (from g n i) ≡ runs n (λ k. g (i + k))
-unfolding from flat
+table-flat : (g : ℕ → List ℕ) (n i : ℕ) → concatenated (from g n i) ≡ runs n (λ k. g (i + k))
+unfolding from concatenated
 table-flat g zero i = sym (runs-none _)
 table-flat g (suc n) i =
     ap₂ (λ (x y : List ℕ). x ++ y) (ap g (sym (add-zero i)))
     (table-flat g n (suc i) ∙ runs-same _ _ n (λ k b. let e : suc i + k ≡ i + suc k = omega arith in ap g e))
     ∙ sym (runs-front (λ k. g (i + k)) n)
 
-flat-runs : (fs : List (List ℕ)) → flat fs ≡ runs (length fs) (λ i. getD fs i [])
-unfolding flat
+flat-runs : (fs : List (List ℕ)) → concatenated fs ≡ runs (length fs) (λ i. getD fs i [])
+unfolding concatenated
 flat-runs [] = sym (runs-none _)
 flat-runs (f ∷ fs) = ap (λ (t : List ℕ). f ++ t) (flat-runs fs) ∙ sym (runs-front (λ i. getD (f ∷ fs) i []) (length fs))
 
 -- the frames of sound frames one behind the other are those frames
-pub frames-of-flat : (fs : List (List ℕ)) → ((i : ℕ) → i < length fs → Stored (getD fs i [])) → framesOf (flat fs) ≡ fs
+pub frames-of-flat : (fs : List (List ℕ)) → ((i : ℕ) → i < length fs → Stored (getD fs i [])) → framesOf (concatenated fs) ≡ fs
 frames-of-flat fs h =
     let g : ℕ → List ℕ = λ i. getD fs i [] in
     let k = length fs in
@@ -189,9 +190,9 @@ frames-of-flat fs h =
     ∙ sym (filled g k [] fs refl (λ i b. refl))
 
 -- and a sound recording is its frames one behind the other
-pub flat-of-frames : {k : ℕ} {s : List ℕ} → Frames k s → flat (framesOf s) ≡ s
+pub flat-of-frames : {k : ℕ} {s : List ℕ} → Frames k s → concatenated (framesOf s) ≡ s
 flat-of-frames {k} {s} fs =
-    ap flat (frames-of fs) ∙ table-flat (frameAt s) k 0 ∙ runs-same _ (frameAt s) k (λ i b. ap (frameAt s) (zero-add i)) ∙ frames-back fs
+    ap concatenated (frames-of fs) ∙ table-flat (frameAt s) k 0 ∙ runs-same _ (frameAt s) k (λ i b. ap (frameAt s) (zero-add i)) ∙ frames-back fs
 
 -- ---- blocks are n frames at a time
 

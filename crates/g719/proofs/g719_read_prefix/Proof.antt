@@ -1,7 +1,7 @@
 -- `g719::g719_read_prefix` meets its contract: the numbers of what `prefix::read_prefix` says. Assumes nothing.
 use mathlib.Core.Path.{ap, _∙_}
 use borrow.Author.Needs.{needs}
-use Rattle.boundary.specs.Numbers.{prefixNumbers}
+use Rattle.boundary.specs.PrefixStructs.{prefixNumbers}
 use Rattle.g719.proofs.g719_read_prefix.Statement.{statement}
 use Rattle.g719.proofs.g719_read_prefix.Tie as tie
 

@@ -1,7 +1,7 @@
 -- `g719::g719_write_prefix` meets its contract: the numbers of what `prefix::write_prefix` makes. Assumes nothing.
 use mathlib.Core.Path.{ap, _∙_}
 use borrow.Author.Needs.{needs}
-use Rattle.boundary.specs.Numbers.{byteNumbers}
+use Rattle.boundary.specs.PrefixStructs.{byteNumbers}
 use Rattle.g719.proofs.g719_write_prefix.Statement.{statement}
 use Rattle.g719.proofs.g719_write_prefix.Tie as tie
 

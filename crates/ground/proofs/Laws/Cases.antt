@@ -1,8 +1,18 @@
--- Laws of specs/Cases.
+-- Going by cases on a test that computes, and both of two tests.
 -- Assumes nothing.
 use mathlib.Core.Path.{_≡_, refl}
 use mathlib.Core.Bool.{Bool, true, false, _&&_, false≢true}
 use lib.Dec.{T}
+
+-- what follows from a test and what follows from its failing
+pub by-bool : (b : Bool) {X : Type 0} → (b ≡ true → X) → (b ≡ false → X) → X
+by-bool true holds fails = holds refl
+by-bool false holds fails = fails refl
+
+-- both of two tests
+pub and-T : (a b : Bool) → T (a && b) → T a × T b
+and-T true b t = (tt, t)
+and-T false b t = absurd t
 
 pub T-true : (b : Bool) → T b → b ≡ true
 T-true true t = refl

@@ -1,4 +1,4 @@
--- Laws of specs/Laying.
+-- Texts laid one after the other are laid at once; the loop that lays a text byte by byte.
 -- Assumes nothing.
 use mathlib.Core.Path.{_≡_, refl, sym, ap, ap₂, _∙_}
 use mathlib.Core.List.{List, [], _∷_, _++_}
@@ -8,7 +8,7 @@ use native.Mathlib.Numerals.{add-one}
 use native.Mathlib.Omega.{arith}
 use lib.ListN.{length, getD, set, take, drop, length-append}
 use lib.Seq.{sets, sets-eq, length-sets, set-comm, take-suc, length-take-le, take-all}
-use Rattle.ground.specs.Laying.{laidText, Laid}
+use Rattle.ground.specs.Laying.{laidText, TextLaid}
 
 pub length-laid : (s : List ℕ) (at : ℕ) (t : List ℕ) → length (laidText s at t) ≡ length s
 unfolding laidText
@@ -37,16 +37,16 @@ pub laid-front : (s t : List ℕ) → length t ≤ length s → laidText s 0 t �
 unfolding laidText
 laid-front s t h = let e : 0 + length t ≡ length t = omega arith in sets-eq t s 0 (omega arith) ∙ ap (λ (k : ℕ). t ++ drop k s) e
 
-pub laid-none : (s : List ℕ) (next : ℕ) → next ≡ 0 → Laid s 0 [] s next
+pub laid-none : (s : List ℕ) (next : ℕ) → next ≡ 0 → TextLaid s 0 [] s next
 unfolding laidText
 laid-none s next e = record { after = e; bytes = refl }
 
-module _ {s t s′ : List ℕ} {at next : ℕ} (l : Laid s at t s′ next) where
+module _ {s t s′ : List ℕ} {at next : ℕ} (l : TextLaid s at t s′ next) where
   pub laid-long : length s′ ≡ length s
   laid-long = ap length (l .bytes) ∙ length-laid s at t
 
   -- another text behind it
-  pub then : {u s″ : List ℕ} {end : ℕ} → Laid s′ next u s″ end → Laid s at (t ++ u) s″ end
+  pub then : {u s″ : List ℕ} {end : ℕ} → TextLaid s′ next u s″ end → TextLaid s at (t ++ u) s″ end
   then {u} m =
       record {
         after = omega (arith, m .after, l .after, length-append t u);
@@ -74,7 +74,7 @@ put-turn s at t s′ i h p =
     ∙ ap (laidText s at) (sym (take-suc t i 0 h) ∙ ap (λ (k : ℕ). take k t) (sym (add-one i))) in
     record { upto = omega arith; long = ap length q ∙ length-laid s at (take (i + 1) t); same = q }
 
-pub put-end : (s : List ℕ) (at : ℕ) (t s′ : List ℕ) (i : ℕ) → length t ≤ i → Putting s at t s′ i → Laid s at t s′ (at + i)
+pub put-end : (s : List ℕ) (at : ℕ) (t s′ : List ℕ) (i : ℕ) → length t ≤ i → Putting s at t s′ i → TextLaid s at t s′ (at + i)
 put-end s at t s′ i h p =
     let e : i ≡ length t = omega (arith, p .upto) in
     record { after = ap (λ (k : ℕ). at + k) e; bytes = p .same ∙ ap (laidText s at) (take-all i t h) }

@@ -1,4 +1,4 @@
--- Laws of specs/Refusals.
+-- The first cause that holds is the reply; 0 where none does, and only there; lists behind lists; the numbers that a list can give.
 -- Assumes nothing.
 use mathlib.Core.Path.{_≡_, refl, sym, ap, _∙_}
 use mathlib.Core.Bool.{Bool, true, false, not, _&&_}
@@ -8,7 +8,7 @@ use native.Mathlib.Decide.{ℕ-discrete}
 use native.Mathlib.Omega.{arith}
 use lib.Dec.{T, ltb, eqb}
 use borrow.Author.Tests.{lt-ltb, le-ltb, eq-eqb, ne-eqb, eqb-true}
-use Rattle.ground.specs.Cases.{by-bool, and-T}
+use Rattle.ground.proofs.Laws.Cases.{by-bool, and-T}
 use Rattle.ground.proofs.Laws.Cases.{T-and}
 use Rattle.ground.specs.Runs.{runs}
 use Rattle.ground.proofs.Laws.Runs.{runs-more}

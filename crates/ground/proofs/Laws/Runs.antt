@@ -1,4 +1,4 @@
--- Laws of specs/Runs.
+-- Lists made of runs: their lengths and fronts, and a lent list taken part by part.
 -- Assumes nothing.
 use mathlib.Core.Path.{_≡_, refl, sym, ap, ap₂, _∙_}
 use mathlib.Core.List.{List, [], _∷_, _++_, append-assoc, append-nil}
@@ -8,7 +8,8 @@ use native.Mathlib.Numerals.{add-one}
 use native.Mathlib.Omega.{arith}
 use lib.ListN.{length, drop, take, set, getD, length-set, replicate, length-append, length-drop}
 use lib.Seq.{drop-cons, set-at, append-snoc, take-at, drop-at, drop-drop, length-take-le}
-use Rattle.ground.specs.Fills.{table, from, length-from}
+use Rattle.ground.specs.ListsByRule.{table, from}
+use Rattle.ground.proofs.Laws.ListsByRule.{length-from}
 use Rattle.ground.specs.Sums.{sumTo}
 use Rattle.ground.specs.Runs.{runs, part}
 

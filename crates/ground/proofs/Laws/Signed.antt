@@ -8,8 +8,8 @@ use lib.Signed.{mag}
 use mir.Facts.{toZ-ofZ, sfits-widen}
 use mir.Syntax.{w16, w32}
 use mir.Val.{SFits, toZ, ofZ}
-use Rattle.ground.specs.Whole.{Is}
-use Rattle.ground.proofs.Laws.Whole.{is-pos, is-sub, is-same, is-mag, raised, raised-pos, raised-small}
+use Rattle.ground.specs.Differences.{Is}
+use Rattle.ground.proofs.Laws.Differences.{is-pos, is-sub, is-same, is-mag, raised, raised-pos, raised-small}
 
 -- a signed number read from an array comes through its bits
 pub read : (z : ℤ) {a b : ℕ} → mag z < 32768 → Is (toZ w16 (ofZ w16 z)) a b → Is z a b

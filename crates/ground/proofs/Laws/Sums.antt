@@ -1,4 +1,4 @@
--- Laws of specs/Sums.
+-- Sums f 0 + … + f (n − 1): one term more, split, by blocks, and held against each other.
 -- Assumes nothing.
 use mathlib.Core.Path.{_≡_, refl, sym, ap, _∙_}
 use mathlib.Core.List.{List, [], _∷_}
@@ -8,8 +8,8 @@ use native.Mathlib.Numerals.{add-one}
 use native.Mathlib.Omega.{arith}
 use borrow.Author.Tests.{eqb-true, eqb-false}
 use lib.Dec.{eqb}
-use Rattle.ground.specs.Cases.{by-bool}
-use Rattle.ground.specs.Fills.{from, table}
+use Rattle.ground.proofs.Laws.Cases.{by-bool}
+use Rattle.ground.specs.ListsByRule.{from, table}
 use Rattle.ground.specs.Sums.{sumTo}
 
 pub sum-nil : (f : ℕ → ℕ) → sumTo f 0 ≡ 0

@@ -11,14 +11,15 @@ use lib.Dec.{eqb, ltb}
 use lib.ListN.{length, take, drop, getD, set, replicate, length-append, length-drop, length-replicate, List·getD-append}
 use lib.Seq.{length-take-le, drop-cons, drop-at, getD-at}
 use borrow.Author.Tests.{eq-eqb, ne-eqb, lt-ltb, le-ltb, eqb-true, eqb-false}
-use Rattle.ground.specs.Cases.{by-bool}
-use Rattle.ground.specs.Fills.{table, from, length-from, getD-table}
-use Rattle.ground.proofs.Laws.Fills.{table-same}
+use Rattle.ground.proofs.Laws.Cases.{by-bool}
+use Rattle.ground.specs.ListsByRule.{table, from}
+use Rattle.ground.proofs.Laws.ListsByRule.{length-from, getD-table}
+use Rattle.ground.proofs.Laws.ListsByRule.{table-same}
 use Rattle.ground.specs.Runs.{runs}
 use Rattle.ground.proofs.Laws.Runs.{runs-none, runs-more, length-runs, Fronted, fronted-none, fronted-more, drop-same}
 use Rattle.ground.specs.Sums.{nth, sumTo}
 use Rattle.ground.proofs.Laws.Sums.{sum-more, sum-same, sum-none, sum-both, sum-grows}
-use Rattle.ground.specs.Laying.{laidText, Laid}
+use Rattle.ground.specs.Laying.{laidText, TextLaid}
 use Rattle.ground.proofs.Laws.Laying.{laid-none, laid-front, laid-long, then}
 use Rattle.ground.specs.Replies.{done, shortRoom, wrongChannels}
 use Rattle.recording.specs.Walk.{mostFrames}
@@ -31,11 +32,11 @@ use Rattle.frames.proofs.Laws.Frames.{placed-all}
 use Rattle.channels.proofs.Laws.Walks.{walk-sound, own-frames}
 use Rattle.channels.proofs.Laws.Extracting.{length-frame, runs-under}
 use Rattle.joining.specs.Joining.{startOf, recordingAt, ownCheck, blockOf, joined, joinedOf, firstCopy, refusedIn, equalCounts, checkAll, joinAnswer}
-use Rattle.joining.specs.Joining.{joinAfter, Lying}
+use Rattle.joining.specs.Joining.{joinAfter, InSource}
 use Rattle.channels.specs.Copies.{madeCopy, refusedCopy, stoppedCopy}
-use Rattle.joining.specs.Inner.{placesAt, Standing}
+use Rattle.joining.specs.Inner.{placesAt, BlocksLaid}
 use Rattle.channels.specs.declared.Copied.{Copied}
-use Rattle.joining.specs.declared.Turn.{Turn}
+use Rattle.joining.specs.declared.Progress.{Progress}
 
 -- ---- where the recordings lie
 
@@ -44,7 +45,7 @@ module _ (src lengths : List ℕ) where
   pub start-next : (c : ℕ) → startOf lengths (c + 1) ≡ startOf lengths c + nth lengths c
   start-next c = sum-more (nth lengths) c
 
-  pub start-inside : Lying src lengths → (c : ℕ) → c ≤ length lengths → startOf lengths c ≤ length src
+  pub start-inside : InSource src lengths → (c : ℕ) → c ≤ length lengths → startOf lengths c ≤ length src
   start-inside L c h = omega (arith, L .inside, sum-grows (nth lengths) c (length lengths) h)
 
   -- the part of the source from where a recording begins to where the next does
@@ -53,7 +54,7 @@ module _ (src lengths : List ℕ) where
       let m : e - a ≡ nth lengths c = omega (arith, start-next c) in
       ap₂ (λ (k j : ℕ). take k (drop j src)) m p
 
-  pub length-recording : Lying src lengths → (c : ℕ) → c < length lengths → length (recordingAt src lengths c) ≡ nth lengths c
+  pub length-recording : InSource src lengths → (c : ℕ) → c < length lengths → length (recordingAt src lengths c) ≡ nth lengths c
   length-recording L c h =
       length-take-le (nth lengths c) (drop (startOf lengths c) src)
       (omega (arith, length-drop (startOf lengths c) src, start-inside L (c + 1) (omega arith), start-next c))
@@ -204,18 +205,18 @@ drop-front zero m q s = ap₂ (λ (x y : ℕ). drop x (take y s)) (zero-add q) (
 drop-front (suc a) m q [] = no-bytes (suc a + q) (suc a + m) ∙ sym (no-bytes q m)
 drop-front (suc a) m q (x ∷ s) = ap₂ (λ (y z : ℕ). drop y (take z (x ∷ s))) (suc-add a q) (suc-add a m) ∙ drop-front a m q s
 
-laid-nothing : (s : List ℕ) (at : ℕ) → Laid s at [] s at
+laid-nothing : (s : List ℕ) (at : ℕ) → TextLaid s at [] s at
 unfolding laidText
 laid-nothing s at = record { after = sym (add-zero at); bytes = refl }
 
 -- the frames of c recordings are laid, and these go on behind them
-pub record Turning (src lengths out₀ : List ℕ) (b next : ℕ) (out places : List ℕ) (to c : ℕ) : Type 0 where
+pub record BlockSoFar (src lengths out₀ : List ℕ) (b next : ℕ) (out places : List ℕ) (to c : ℕ) : Type 0 where
   pub few : c ≤ length lengths
   pub front : Fronted (placeIn src lengths (b + 1)) (placesAt src lengths b) places c
-  pub laid : Laid out₀ next (runs c (λ c. frameAt (recordingAt src lengths c) b)) out to
+  pub laid : TextLaid out₀ next (runs c (λ c. frameAt (recordingAt src lengths c) b)) out to
 
-module _ {src lengths out₀ : List ℕ} {b next : ℕ} {out places : List ℕ} {to c : ℕ} (T : Turning src lengths out₀ b next out places to c)
-    (L : Lying src lengths) (h : c < length lengths) where
+module _ {src lengths out₀ : List ℕ} {b next : ℕ} {out places : List ℕ} {to c : ℕ} (T : BlockSoFar src lengths out₀ b next out places to c)
+    (L : InSource src lengths) (h : c < length lengths) where
   abbrev s : List ℕ
   s = recordingAt src lengths c
 
@@ -234,8 +235,8 @@ module _ {src lengths out₀ : List ℕ} {b next : ℕ} {out places : List ℕ} 
       size-is : k ≡ sizeAt (drop (placeOf s b) s)
       size-is = eₖ ∙ ap sizeAt rest-is
 
-      pub turn-end : p + k ≤ end
-      turn-end =
+      pub frame-end : p + k ≤ end
+      frame-end =
           omega (
             arith,
             size-is,
@@ -251,9 +252,9 @@ module _ {src lengths out₀ : List ℕ} {b next : ℕ} {out places : List ℕ} 
       text-is : take (p + k - p) (drop p (take end src)) ≡ frameAt s b
       text-is = let n : p + k - p ≡ k = omega arith in ap₂ (λ (x : ℕ) (y : List ℕ). take x y) (n ∙ size-is) rest-is
 
-      pub turn-room : next + length (blockOf (length lengths) (recordingAt src lengths) b) ≤ length out₀
+      pub frame-room : next + length (blockOf (length lengths) (recordingAt src lengths) b) ≤ length out₀
           → to + length (take (p + k - p) (drop p (take end src))) ≤ length out
-      turn-room r =
+      frame-room r =
           let f : ℕ → List ℕ = λ c. frameAt (recordingAt src lengths c) b in
           omega (
             arith,
@@ -265,72 +266,72 @@ module _ {src lengths out₀ : List ℕ} {b next : ℕ} {out places : List ℕ} 
             runs-under f (c + 1) (length lengths) (omega arith),
           )
 
-      pub turn-more : {after : List ℕ} {on : ℕ} → Laid out to (take (p + k - p) (drop p (take end src))) after on
-          → Turning src lengths out₀ b next after (set places c (p + k)) on (c + 1)
-      turn-more {after} {on} l =
+      pub frame-more : {after : List ℕ} {on : ℕ} → TextLaid out to (take (p + k - p) (drop p (take end src))) after on
+          → BlockSoFar src lengths out₀ b next after (set places c (p + k)) on (c + 1)
+      frame-more {after} {on} l =
           let f : ℕ → List ℕ = λ c. frameAt (recordingAt src lengths c) b in
           let e : p + k ≡ placeIn src lengths (b + 1) c = omega (arith, turn-place eₚ, size-is, place-more s 0 b) in
           record {
             few = omega arith;
             front = fronted-more (T .front) (omega (arith, length-places src lengths b (L .few), L .few)) e;
-            laid = subst (λ (t : List ℕ). Laid out₀ next t after on) (ap (λ (x : List ℕ). runs c f ++ x) text-is ∙ sym (runs-more f c)) (then (T .laid) l);
+            laid = subst (λ (t : List ℕ). TextLaid out₀ next t after on) (ap (λ (x : List ℕ). runs c f ++ x) text-is ∙ sym (runs-more f c)) (then (T .laid) l);
           }
 
-module _ {src lengths out : List ℕ} {t : Turn} (S : Standing src lengths out t) where
-  pub turning-none : Turning src lengths out (t .block) (t .next) out (t .places) (t .next) 0
+module _ {src lengths out : List ℕ} {t : Progress} (S : BlocksLaid src lengths out t) where
+  pub block-so-far-none : BlockSoFar src lengths out (t .block) (t .next) out (t .places) (t .next) 0
   unfolding runs
-  turning-none =
+  block-so-far-none =
       record {
         few = omega arith;
         front = subst (λ (l : List ℕ). Fronted (placeIn src lengths (t .block + 1)) (placesAt src lengths (t .block)) l 0) (sym (S .places)) fronted-none;
         laid = laid-nothing out (t .next);
       }
 
-module _ {src lengths out₀ : List ℕ} {b next : ℕ} {out places : List ℕ} {to c : ℕ} (T : Turning src lengths out₀ b next out places to c) where
-  pub turning-long : length out ≡ length out₀
-  turning-long = laid-long (T .laid)
+module _ {src lengths out₀ : List ℕ} {b next : ℕ} {out places : List ℕ} {to c : ℕ} (T : BlockSoFar src lengths out₀ b next out places to c) where
+  pub block-so-far-long : length out ≡ length out₀
+  block-so-far-long = laid-long (T .laid)
 
   -- after the last recording
   module _ (h : length lengths ≤ c) where
     all-turned : c ≡ length lengths
     all-turned = omega (arith, T .few)
 
-    pub turned-places : length lengths ≤ 8 → places ≡ placesAt src lengths (b + 1)
-    turned-places l =
+    pub block-places : length lengths ≤ 8 → places ≡ placesAt src lengths (b + 1)
+    block-places l =
         let n = length lengths in
         T .front .same ∙ ap (λ (k : ℕ). table k (placeIn src lengths (b + 1)) ++ drop k (placesAt src lengths b)) all-turned
         ∙ ap (λ (x : List ℕ). table n (placeIn src lengths (b + 1)) ++ x)
         (drop-at (table n (placeIn src lengths b)) (replicate (8 - n) 0) n (length-from (placeIn src lengths b) n 0))
 
-    pub turned-laid : Laid out₀ next (blockOf (length lengths) (recordingAt src lengths) b) out to
-    turned-laid = subst (λ (k : ℕ). Laid out₀ next (runs k (λ c. frameAt (recordingAt src lengths c) b)) out to) all-turned (T .laid)
+    pub block-laid : TextLaid out₀ next (blockOf (length lengths) (recordingAt src lengths) b) out to
+    block-laid = subst (λ (k : ℕ). TextLaid out₀ next (runs k (λ c. frameAt (recordingAt src lengths c) b)) out to) all-turned (T .laid)
 
 -- ---- all blocks
 
-pub record Joining (src lengths out₀ : List ℕ) (blocks : ℕ) (out : List ℕ) (t : Turn) : Type 0 where
+pub record Joining (src lengths out₀ : List ℕ) (blocks : ℕ) (out : List ℕ) (t : Progress) : Type 0 where
   pub few : t .block ≤ blocks
   pub places : t .places ≡ placesAt src lengths (t .block)
-  pub laid : Laid out₀ 0 (joined (length lengths) (t .block) (recordingAt src lengths)) out (t .next)
+  pub laid : TextLaid out₀ 0 (joined (length lengths) (t .block) (recordingAt src lengths)) out (t .next)
 
-pub joining-none : {src lengths out : List ℕ} {blocks : ℕ} {t : Turn} → t .block ≡ 0 → t .next ≡ 0 → t .places ≡ placesAt src lengths 0
+pub joining-none : {src lengths out : List ℕ} {blocks : ℕ} {t : Progress} → t .block ≡ 0 → t .next ≡ 0 → t .places ≡ placesAt src lengths 0
     → Joining src lengths out blocks out t
 joining-none {src} {lengths} {out} {blocks} {t} b n p =
     let f = blockOf (length lengths) (recordingAt src lengths) in
     record {
       few = omega arith;
       places = p ∙ ap (placesAt src lengths) (sym b);
-      laid = subst (λ (l : List ℕ). Laid out 0 l out (t .next)) (sym (runs-none f) ∙ ap (λ (k : ℕ). runs k f) (sym b)) (laid-none out (t .next) n);
+      laid = subst (λ (l : List ℕ). TextLaid out 0 l out (t .next)) (sym (runs-none f) ∙ ap (λ (k : ℕ). runs k f) (sym b)) (laid-none out (t .next) n);
     }
 
-module _ {src lengths out₀ : List ℕ} {blocks : ℕ} {out : List ℕ} {t : Turn} (J : Joining src lengths out₀ blocks out t) where
+module _ {src lengths out₀ : List ℕ} {blocks : ℕ} {out : List ℕ} {t : Progress} (J : Joining src lengths out₀ blocks out t) where
   abbrev f : ℕ → List ℕ
   f = blockOf (length lengths) (recordingAt src lengths)
 
   pub joining-long : length out ≡ length out₀
   joining-long = laid-long (J .laid)
 
-  pub joining-stands : Lying src lengths → t .block < blocks → length (joined (length lengths) blocks (recordingAt src lengths)) ≤ length out₀
-      → Standing src lengths out t
+  pub joining-stands : InSource src lengths → t .block < blocks → length (joined (length lengths) blocks (recordingAt src lengths)) ≤ length out₀
+      → BlocksLaid src lengths out t
   joining-stands L h r =
       let b = t .block in
       record {
@@ -340,13 +341,13 @@ module _ {src lengths out₀ : List ℕ} {blocks : ℕ} {out : List ℕ} {t : Tu
             (arith, J .laid .after, joining-long, ap length (runs-more f b), length-append (runs b f) (f b), runs-under f (b + 1) blocks (omega arith));
       }
 
-  pub joining-more : {after : List ℕ} {t′ : Turn} → t .block < blocks → t′ .block ≡ t .block + 1 → t′ .places ≡ placesAt src lengths (t .block + 1)
-      → Laid out (t .next) (f (t .block)) after (t′ .next) → Joining src lengths out₀ blocks after t′
+  pub joining-more : {after : List ℕ} {t′ : Progress} → t .block < blocks → t′ .block ≡ t .block + 1 → t′ .places ≡ placesAt src lengths (t .block + 1)
+      → TextLaid out (t .next) (f (t .block)) after (t′ .next) → Joining src lengths out₀ blocks after t′
   joining-more {after} {t′} h b p l =
       record {
         few = omega arith;
         places = p ∙ ap (placesAt src lengths) (sym b);
-        laid = subst (λ (x : List ℕ). Laid out₀ 0 x after (t′ .next)) (sym (runs-more f (t .block)) ∙ ap (λ (k : ℕ). runs k f) (sym b)) (then (J .laid) l);
+        laid = subst (λ (x : List ℕ). TextLaid out₀ 0 x after (t′ .next)) (sym (runs-more f (t .block)) ∙ ap (λ (k : ℕ). runs k f) (sym b)) (then (J .laid) l);
       }
 
   pub joining-end : blocks ≤ t .block → length (joined (length lengths) blocks (recordingAt src lengths)) ≤ length out₀
@@ -427,7 +428,7 @@ module _ (w : ℕ → Check) where
       (λ t. let d = eqb-false (refusedIn w n .reply) 0 t in absurd (d (sym (same-reply (first-kept (refusedIn w n) own d)) ∙ e)))
 
 -- the joined recording is as long as all together, and has at most 3,000 blocks
-pub joined-long : (src lengths : List ℕ) → Lying src lengths → Common (ownCheck src lengths) (length lengths)
+pub joined-long : (src lengths : List ℕ) → InSource src lengths → Common (ownCheck src lengths) (length lengths)
     → length (joinedOf src lengths) ≡ startOf lengths (length lengths)
 joined-long src lengths L C =
     let n = length lengths in
@@ -489,7 +490,7 @@ module _ (src lengths out : List ℕ) where
   join-laid x e h = rw (eq-eqb (joinAnswer src lengths (length out) .reply) 0 (same-reply e ∙ h))
 
 -- all recordings were found sound and equal
-module _ {src lengths : List ℕ} (e : isCount (length lengths) ≡ true) (L : Lying src lengths) {found : Copied}
+module _ {src lengths : List ℕ} (e : isCount (length lengths) ≡ true) (L : InSource src lengths) {found : Copied}
     (f : found ≡ checkAll (ownCheck src lengths) (length lengths)) (z : found .reply ≡ 0) where
   checked : Common (ownCheck src lengths) (length lengths)
   checked = checked-common (ownCheck src lengths) (length lengths) (sym (same-reply f) ∙ z)

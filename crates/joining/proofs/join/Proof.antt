@@ -9,7 +9,7 @@ use mathlib.Core.Path.{_≡_, sym, _∙_}
 use native.Mathlib.Omega.{arith}
 use Rattle.recording.specs.Blocks.{isCount}
 use Rattle.recording.proofs.Laws.Blocks.{counted}
-use Rattle.joining.specs.Joining.{Lying}
+use Rattle.joining.specs.Joining.{InSource}
 use Rattle.joining.proofs.Laws.Joining.{join-uncounted, join-past, join-stopped, join-kept, same-reply, found-few, found-long, found-short, found-joined}
 use Rattle.joining.proofs.Laws.Joining.{found-after}
 use Rattle.joining.proofs.join.Statement.{statement}
@@ -41,7 +41,7 @@ returns-2 c =
     (r .refusal2 .ensures ∙ sym q, join-kept (now (a .args .src)) (now (a .args .lengths)) (now (a .args .out)) _ q (λ z. omega arith))
 
 -- they lie in the source
-lying : (t : tie.Else2) → let a : tie.Start = search in Lying (now (a .args .src)) (now (a .args .lengths))
+lying : (t : tie.Else2) → let a : tie.Start = search in InSource (now (a .args .src)) (now (a .args .lengths))
 lying t =
     let s : tie.After-start-of = search in
     record { few = range (search) .1; inside = omega (arith, s .start-of .ensures .0) }

@@ -6,12 +6,13 @@ use lib.ListN.{length, take, getD}
 use lib.Seq.{length-take-le}
 use mathlib.Core.Path.{_≡_, refl, sym}
 use native.Mathlib.Omega.{arith}
-use Rattle.joining.proofs.Laws.Joining.{Turning, turning-none, start-inside, turn-end, turn-room, turn-more, turning-long, turned-places, turned-laid}
+use Rattle.joining.proofs.Laws.Joining.{BlockSoFar, block-so-far-none, block-so-far-long, start-inside, frame-end, frame-room, frame-more}
+use Rattle.joining.proofs.Laws.Joining.{block-places, block-laid}
 use Rattle.joining.proofs.join_block.Statement.{statement}
 use Rattle.joining.proofs.join_block.Tie as tie
 
 abbrev Inv-loop : tie.InvT-loop
-Inv-loop src lengths turn out₀ places₀ to₀ c₀ out places to c = Turning src lengths out₀ (turn .block) (turn .next) out places to c
+Inv-loop src lengths turn out₀ places₀ to₀ c₀ out places to c = BlockSoFar src lengths out₀ (turn .block) (turn .next) out places to c
 
 abbrev μ-loop : tie.MeasureT-loop
 μ-loop src lengths turn out₀ places₀ to₀ c₀ out places to c = length lengths - c
@@ -33,7 +34,7 @@ within z =
     let o : tie.After-start-of Inv-loop μ-loop = search in
     let l : tie.At-loop Inv-loop μ-loop = search in
     let a : tie.Start Inv-loop μ-loop = search in
-    turn-end (l .loop .inv) (a .pre .0 .lying) (omega arith) (o .start-of .ensures .0) refl (z .size-at .ensures)
+    frame-end (l .loop .inv) (a .pre .0 .lying) (omega arith) (o .start-of .ensures .0) refl (z .size-at .ensures)
 
 put-requires : tie.Need-put-requires Inv-loop μ-loop
 put-requires c κs =
@@ -41,7 +42,7 @@ put-requires c κs =
     let o : tie.After-start-of Inv-loop μ-loop = search in
     let l : tie.At-loop Inv-loop μ-loop = search in
     let a : tie.Start Inv-loop μ-loop = search in
-    turn-room (l .loop .inv) (a .pre .0 .lying) (omega arith) (o .start-of .ensures .0) refl (z .size-at .ensures) (a .pre .0 .room)
+    frame-room (l .loop .inv) (a .pre .0 .lying) (omega arith) (o .start-of .ensures .0) refl (z .size-at .ensures) (a .pre .0 .room)
 
 loop-again : tie.Need-loop-again Inv-loop μ-loop
 loop-again c =
@@ -50,13 +51,13 @@ loop-again c =
     let o : tie.After-start-of Inv-loop μ-loop = search in
     let l : tie.At-loop Inv-loop μ-loop = search in
     let a : tie.Start Inv-loop μ-loop = search in
-    turn-more (l .loop .inv) (a .pre .0 .lying) (omega arith) (o .start-of .ensures .0) refl (z .size-at .ensures) (p .put .ensures)
+    frame-more (l .loop .inv) (a .pre .0 .lying) (omega arith) (o .start-of .ensures .0) refl (z .size-at .ensures) (p .put .ensures)
 
 returns : tie.Need-returns Inv-loop μ-loop
 returns c =
     let l : tie.At-loop Inv-loop μ-loop = search in
     let a : tie.Start Inv-loop μ-loop = search in
-    (refl, turned-places (l .loop .inv) (omega arith) (a .pre .0 .lying .few), turned-laid (l .loop .inv) (omega arith))
+    (refl, block-places (l .loop .inv) (omega arith) (a .pre .0 .lying .few), block-laid (l .loop .inv) (omega arith))
 
 pub join-block-spec : {M : Type 1} → statement M
 join-block-spec =
@@ -64,7 +65,7 @@ join-block-spec =
     (tie.spec
     Inv-loop
     μ-loop
-    (λ c. let a : tie.Start Inv-loop μ-loop = search in turning-none (a .pre .0))
+    (λ c. let a : tie.Start Inv-loop μ-loop = search in block-so-far-none (a .pre .0))
     (λ c. search needs)
     (λ c κs. let a : tie.Start Inv-loop μ-loop = search in omega (arith, a .pre .0 .lying .few))
     (λ c. sym (ends (search) .1))
@@ -82,5 +83,5 @@ join-block-spec =
     (λ c. search needs)
     loop-again
     (λ c. search needs)
-    (λ c. let l : tie.At-loop Inv-loop μ-loop = search in turning-long (l .loop .inv))
+    (λ c. let l : tie.At-loop Inv-loop μ-loop = search in block-so-far-long (l .loop .inv))
     returns)

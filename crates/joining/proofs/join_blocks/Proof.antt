@@ -14,9 +14,9 @@ abbrev μ-loop : tie.MeasureT-loop
 
 loop-holds : tie.Need-loop-holds Inv-loop μ-loop
 loop-holds c =
-    let f : tie.After-first-turn Inv-loop μ-loop = search in
+    let f : tie.After-first-progress Inv-loop μ-loop = search in
     let a : tie.Start Inv-loop μ-loop = search in
-    joining-none (f .first-turn .ensures .0) (f .first-turn .ensures .1) (f .first-turn .ensures .2 (now (a .args .src)))
+    joining-none (f .first-progress .ensures .0) (f .first-progress .ensures .1) (f .first-progress .ensures .2 (now (a .args .src)))
 
 join-block-requires : tie.Need-join-block-requires Inv-loop μ-loop
 join-block-requires c κs =

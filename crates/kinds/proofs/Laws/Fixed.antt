@@ -9,9 +9,9 @@ use native.Mathlib.Omega.{arith}
 use lib.Dec.{ltb, eqb}
 use lib.ListN.{getD}
 use borrow.Author.Tests.{eqb-true, eqb-false, lt-ltb, le-ltb, ltb-true, ltb-false}
-use Rattle.ground.specs.Cases.{by-bool}
-use Rattle.ground.specs.Fills.{getD-table}
-use Rattle.ground.proofs.Laws.Fills.{everywhere}
+use Rattle.ground.proofs.Laws.Cases.{by-bool}
+use Rattle.ground.proofs.Laws.ListsByRule.{getD-table}
+use Rattle.ground.proofs.Laws.ListsByRule.{everywhere}
 use Rattle.ground.specs.Sums.{nth, sumTo}
 use Rattle.ground.proofs.Laws.Sums.{sum-front, sum-same, sum-none, sum-add, sum-blocks, sumOf, sum-table}
 use Rattle.contest.specs.Bands.{lengthOf}
@@ -98,7 +98,8 @@ module _ (rate : ℕ → ℕ) where
   pub widths : sumTo (λ i. kindOf false (rate (bandOf i)) i) 800 ≡ sumTo (λ p. rate p * lengthOf p) 44
   widths =
       sum-blocks width cost 32 544 36 8
-      (λ p h. one-band (36 + p) (544 + p * 32) 4 (omega arith) (length-32 p) (λ j k. sym (band-32 (544 + p * 32 + j) (omega arith) (omega arith)) ∙ omega arith))
+      (λ p h. one-band (36 + p) (544 + p * 32) 4 (omega arith) (length-32 p)
+      (λ j k. sym (band-32 (544 + p * 32 + j) (omega arith) (omega arith)) ∙ omega arith))
       upto-544
 
 -- ---- the kinds of the 800 places

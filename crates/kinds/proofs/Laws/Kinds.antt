@@ -1,4 +1,4 @@
--- Laws of specs/Kinds.
+-- The band of a place by the four lengths, the kind of a place by the tests, and the loop that fills eight places a turn.
 -- Assumes nothing.
 use mathlib.Core.Path.{_≡_, refl, sym, ap, _∙_}
 use mathlib.Core.Bool.{Bool, true, false, cond}
@@ -8,12 +8,12 @@ use native.Mathlib.Omega.{arith}
 use lib.Dec.{ltb, eqb, eqb→eq}
 use lib.ListN.{length, getD, set, length-set, replicate}
 use borrow.Author.Tests.{lt-ltb, le-ltb, ltb-true, ltb-false, le-leb, lt-leb, eq-eqb, ne-eqb}
-use Rattle.ground.specs.Cases.{by-bool}
-use Rattle.ground.specs.Fills.{length-from, filled}
+use Rattle.ground.proofs.Laws.Cases.{by-bool}
+use Rattle.ground.proofs.Laws.ListsByRule.{length-from, filled}
 use Rattle.ground.specs.Runs.{runs}
-use Rattle.ground.specs.Tables.{every-at}
+use Rattle.ground.proofs.Laws.PrintedTables.{every-at}
 use Rattle.contest.specs.Bands.{lengthOf}
-use Rattle.ground.proofs.Laws.Fills.{fill-eight}
+use Rattle.ground.proofs.Laws.ListsByRule.{fill-eight}
 use Rattle.kinds.specs.Kinds.{placeBands, bandOf, kindOf, kinds}
 
 pub length-kinds : (flagC : Bool) (rates : List ℕ) → length (kinds flagC rates) ≡ 800

@@ -12,10 +12,13 @@ use lib.Dec.{eqb, ltb}
 use lib.ListN.{length, getD}
 use lib.IntN.{ℤ, pos, negsuc, sucℤ, predℤ, _-ℤ_}
 use lib.Signed.{shrZ, ltZ}
-use Rattle.ground.specs.Fills.{from, filled, getD-table, length-from}
-use Rattle.ground.specs.Whole.{Is, modZ}
-use Rattle.ground.proofs.Laws.Whole.{is-pos, is-same, is-add, is-sub, is-half, is-mod}
-use Rattle.lattice.specs.Lattice.{point, coordinate, final, step, changed, error, worst, rounded, roundedSum, x, sumTo, sumZ, back, backAt, IsIndex}
+use Rattle.ground.specs.ListsByRule.{from}
+use Rattle.ground.proofs.Laws.ListsByRule.{filled, getD-table, length-from}
+use Rattle.ground.specs.Differences.{Is, modZ}
+use Rattle.ground.proofs.Laws.Differences.{is-pos, is-same, is-add, is-sub, is-half, is-mod}
+use Rattle.ground.specs.Sums.{sumTo}
+use Rattle.ground.proofs.Laws.Sums.{sum-both, sum-same}
+use Rattle.lattice.specs.Lattice.{point, coordinate, final, step, changed, error, worst, rounded, roundedSum, x, sumZ, back, backAt, IsIndex}
 use Rattle.lattice.proofs.Laws.Lattice.{is-scale, is-cross, is-above, error-is, largest-lt}
 
 one : Bool → ℕ
@@ -53,18 +56,14 @@ settled r k i h e u c a l p ec ea q =
 
 -- ---- the sum of the final rounded numbers is even
 
-sum-both : (f g h : ℕ → ℕ) → ((i : ℕ) → h i ≡ f i + g i) → (n : ℕ) → sumTo h n ≡ sumTo f n + sumTo g n
-sum-both f g h e zero = refl
-sum-both f g h e (suc n) = omega (arith, sum-both f g h e n, e n)
-
 none-there : (w n : ℕ) → n ≤ w → sumTo (λ (i : ℕ). one (eqb i w)) n ≡ 0
-unfolding one
+unfolding one sumTo
 none-there w zero l = refl
 none-there w (suc n) l = simp (ne-eqb n w (omega arith)) (omega (arith, none-there w n (omega arith)))
 
 -- one place of n is w
 one-there : (w n : ℕ) → w < n → sumTo (λ (i : ℕ). one (eqb i w)) n ≡ 1
-unfolding one
+unfolding one sumTo
 one-there w zero l = absurd (omega arith)
 one-there w (suc n) l = go (eqb n w) refl (one-there w n)
   where
@@ -74,7 +73,7 @@ one-there w (suc n) l = go (eqb n w) refl (one-there w n)
 
 -- as many places are changed as make the sum even: one or none
 flags : (o : Bool) (w : ℕ) → w < 8 → sumTo (λ (i : ℕ). one (o && eqb i w)) 8 ≡ one o
-unfolding one
+unfolding one sumTo
 flags true w l = one-there w 8 l
 flags false w l = refl
 
@@ -97,14 +96,16 @@ even : (r : ℕ) (k : List ℕ) → sumTo (λ (i : ℕ). up r k i + down r k i) 
 unfolding up down worst changed roundedSum
 even r k =
     ap (λ (s : ℕ). s % 2)
-    (sum-both (λ (i : ℕ). rounded r (x k i)) (λ (i : ℕ). one (changed r k i)) _ (λ i. up-down (rounded r (x k i)) (changed r k i) (above r k i)) 8
+    (sum-same (λ (i : ℕ). up r k i + down r k i) (λ (i : ℕ). rounded r (x k i) + one (changed r k i)) 8
+    (λ i h. up-down (rounded r (x k i)) (changed r k i) (above r k i))
+    ∙ sym (sum-both (λ (i : ℕ). rounded r (x k i)) (λ (i : ℕ). one (changed r k i)) 8)
     ∙ ap (λ (f : ℕ). sumTo (λ (i : ℕ). rounded r (x k i)) 8 + f) (flags (eqb (roundedSum r k % 2) 1) (worst r k) (largest-lt _ 7)))
     ∙ even-by (sumTo (λ (i : ℕ). rounded r (x k i)) 8)
 
 -- ---- back to each place
 
 back-first : (r : ℕ) (k : List ℕ) → getD k 0 0 < r → backAt r (point r k) 0 ≡ getD k 0 0
-unfolding backAt point from x
+unfolding backAt point from x sumTo
 back-first r k l =
     let u = up r k in
     let d = down r k in

@@ -12,10 +12,10 @@ use lib.Dec.{ltb}
 use lib.ListN.{getD}
 use lib.IntN.{ℤ, pos, negsuc, natAbs, _*ℤ_}
 use lib.Signed.{ltZ}
-use Rattle.ground.specs.Cases.{by-bool}
-use Rattle.ground.specs.Whole.{Is}
-use Rattle.ground.proofs.Laws.Whole.{is-pos, is-same, is-neg, is-add, is-sub}
-use Rattle.lattice.specs.Lattice.{x, rounded, error, sumTo, sumZ, largest}
+use Rattle.ground.proofs.Laws.Cases.{by-bool}
+use Rattle.ground.specs.Differences.{Is}
+use Rattle.ground.proofs.Laws.Differences.{is-pos, is-same, is-neg, is-add, is-sub}
+use Rattle.lattice.specs.Lattice.{x, rounded, error, sumZ, largest}
 
 -- ---- whole numbers as differences
 
@@ -69,9 +69,6 @@ pub rounded-near : {r q : ℕ} (x : ℕ) → q ≡ rounded r x → 0 < r → (2 
 rounded-near {r} x e l = rw e (near r x l)
 
 -- ---- sums and the first place of the largest, one place more
-
-pub sum-more : (f : ℕ → ℕ) (n : ℕ) → sumTo f (n + 1) ≡ sumTo f n + f n
-sum-more f n = rw add-one
 
 pub sumZ-more : (f : ℕ → ℤ) (n : ℕ) {a b c d : ℕ} → Is (sumZ f n) a b → Is (f n) c d → Is (sumZ f (n + 1)) (a + c) (b + d)
 sumZ-more f n p q = rw add-one (is-add p q)

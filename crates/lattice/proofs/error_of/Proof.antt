@@ -2,7 +2,7 @@
 use native.Mathlib.Omega.{arith}
 use borrow.Author.Needs.{needs}
 use Rattle.lattice.proofs.Laws.Lattice.{rounded-near}
-use Rattle.lattice.proofs.Laws.Raised.{error-made}
+use Rattle.lattice.proofs.Laws.RaisedErrors.{error-made}
 use Rattle.lattice.proofs.error_of.Statement.{statement}
 use Rattle.lattice.proofs.error_of.Tie as tie
 

@@ -3,9 +3,9 @@ use mathlib.Core.Path.{refl}
 use Prim.Native.Nat.{_-_, _^_}
 use native.Mathlib.Omega.{arith}
 use borrow.Author.Needs.{needs, sfits-of}
-use Rattle.ground.proofs.Laws.Filling.{Filling, filling-none, filling-more, filling-done}
+use Rattle.ground.proofs.Laws.FillingLoops.{Filling, filling-none, filling-more, filling-done}
 use Rattle.lattice.specs.Lattice.{point, coordinate}
-use Rattle.lattice.proofs.Laws.Raised.{coordinate-made}
+use Rattle.lattice.proofs.Laws.RaisedErrors.{coordinate-made}
 use Rattle.lattice.proofs.point_list.Statement.{statement}
 use Rattle.lattice.proofs.point_list.Tie as tie
 

@@ -3,7 +3,7 @@ use mathlib.Core.Path.{refl}
 use Prim.Native.Nat.{_-_}
 use borrow.Author.Needs.{needs}
 use Rattle.lattice.specs.Lattice.{x}
-use Rattle.lattice.proofs.Laws.Raised.{Rounding, rounding-none, rounding-more, rounding-done}
+use Rattle.lattice.proofs.Laws.RaisedErrors.{Rounding, rounding-none, rounding-more, rounding-done}
 use Rattle.lattice.proofs.rounding.Statement.{statement}
 use Rattle.lattice.proofs.rounding.Tie as tie
 

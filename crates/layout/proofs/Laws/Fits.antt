@@ -1,4 +1,4 @@
--- Laws of specs/Fits.
+-- Every number has a word of its kind: by the test, and by the loop that tries them one by one.
 -- Assumes nothing.
 use mathlib.Core.Path.{_≡_, refl, sym, ap, ap₂, _∙_}
 use mathlib.Core.Bool.{Bool, true, false, _&&_}

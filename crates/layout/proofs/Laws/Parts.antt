@@ -1,4 +1,4 @@
--- Laws of specs/Parts.
+-- The plan of a record, its causes by their tests, and what a layout of 0 tells.
 -- Assumes nothing.
 use mathlib.Core.Path.{_≡_, refl, sym, ap, ap₂, _∙_}
 use mathlib.Core.Bool.{Bool, true}
@@ -9,7 +9,7 @@ use lib.Dec.{T, ltb, eqb}
 use lib.ListN.{length, take}
 use lib.Seq.{length-take-le}
 use borrow.Author.Tests.{eq-eqb, ne-eqb, not-false, ltb-true, ltb-false, eqb-true}
-use Rattle.ground.specs.Cases.{by-bool}
+use Rattle.ground.proofs.Laws.Cases.{by-bool}
 use Rattle.ground.specs.Replies.{done}
 use Rattle.ground.specs.Refusals.{first, notDone}
 use Rattle.ground.proofs.Laws.Refusals.{numbers, by-rows, none-first, first-none, front-first, back-first, neither-first, both-first}
@@ -22,7 +22,7 @@ use Rattle.norms.proofs.Laws.Part.{bits-few}
 use Rattle.allotment.specs.Allotment.{sharesOf}
 use Rattle.kinds.specs.Kinds.{kinds}
 use Rattle.kinds.proofs.Laws.Kinds.{length-kinds}
-use Rattle.kinds.specs.Budget.{spare, wideIn, kindsAt}
+use Rattle.kinds.specs.Budget.{noiseBits, allCompete, kindsAt}
 use Rattle.frame.specs.Layout.{budgetOf, kindsOf}
 use Rattle.frame.specs.Answers.{flagsOf}
 use Rattle.frame.specs.declared.Record.{Record}
@@ -35,23 +35,23 @@ use Rattle.layout.specs.Parts.{noParts, partsWith, partsBy, partsIn, lay
 -- ---- the plan
 
 plan-made : (r : Record) (n b e : ℕ) (rs ks : List ℕ) → n ≡ length (normBits (r .transient) (r .«flag_n») (r .norms)) → e ≡ total r
-    → b ≡ e - (4 + n) - spare (r .transient) → rs ≡ sharesOf (r .transient) (wideIn e (r .«flag_l»)) (r .norms) b .rates → ks ≡ kinds (r .«flag_c») rs
+    → b ≡ e - (4 + n) - noiseBits (r .transient) → rs ≡ sharesOf (r .transient) (allCompete e (r .«flag_l»)) (r .norms) b .rates → ks ≡ kinds (r .«flag_c») rs
     → record { budget = b; rates = rs; kinds = ks } ≡ planOf r
 unfolding planOf budgetOf kindsOf kindsAt
 plan-made r n b e rs ks en ee eb er ek =
-    let m : b ≡ budgetFor r = eb ∙ ap₂ (λ (x y : ℕ). x - (4 + y) - spare (r .transient)) ee en in
-    let q : rs ≡ ratesFor r = er ∙ ap₂ (λ (x y : ℕ). sharesOf (r .transient) (wideIn x (r .«flag_l»)) (r .norms) y .rates) ee m in
+    let m : b ≡ budgetFor r = eb ∙ ap₂ (λ (x y : ℕ). x - (4 + y) - noiseBits (r .transient)) ee en in
+    let q : rs ≡ ratesFor r = er ∙ ap₂ (λ (x y : ℕ). sharesOf (r .transient) (allCompete x (r .«flag_l»)) (r .norms) y .rates) ee m in
     let k : ks ≡ kindsFor r = ek ∙ ap (kinds (r .«flag_c»)) q in
     ap (λ (x : ℕ). record { budget = x; rates = rs; kinds = ks }) m ∙ ap₂ (λ (x y : List ℕ). record { budget = budgetFor r; rates = x; kinds = y }) q k
 
 -- the plan as the code makes it: bytes, norm bits, budget, rates, kinds
 pub plan-code : {bytes wide n left k b : ℕ} {f : Flags} {rs ks : List ℕ} (r : Record) → bytes ≡ modeBytes (r .mode) → wide ≡ bytes
-    → n ≡ length (normBits (r .transient) (r .«flag_n») (r .norms)) → left ≡ wide * 8 - (4 + n) → k ≡ spare (r .transient) → b ≡ left - k
-    → f ≡ flagsOf (flagBits r) → rs ≡ sharesOf (f .transient) (wideIn (wide * 8) (f .l)) (r .norms) b .rates → ks ≡ kinds (r .«flag_c») rs
+    → n ≡ length (normBits (r .transient) (r .«flag_n») (r .norms)) → left ≡ wide * 8 - (4 + n) → k ≡ noiseBits (r .transient) → b ≡ left - k
+    → f ≡ flagsOf (flagBits r) → rs ≡ sharesOf (f .transient) (allCompete (wide * 8) (f .l)) (r .norms) b .rates → ks ≡ kinds (r .«flag_c») rs
     → record { budget = b; rates = rs; kinds = ks } ≡ planOf r
 plan-code {wide = wide} {b = b} r ey ew en el ek eb ef er es =
     plan-made r _ _ _ _ _ en (ap (λ (x : ℕ). x * 8) (ew ∙ ey)) (eb ∙ ap₂ (λ (x y : ℕ). x - y) el ek)
-    (er ∙ ap (λ (x : Flags). sharesOf (x .transient) (wideIn (wide * 8) (x .l)) (r .norms) b .rates) ef) es
+    (er ∙ ap (λ (x : Flags). sharesOf (x .transient) (allCompete (wide * 8) (x .l)) (r .norms) b .rates) ef) es
 
 pub norm-room : (t f : Bool) (norms : List ℕ) (n : ℕ) → n ≡ length (normBits t f norms) → n ≤ 704
 norm-room t f norms n e = omega (arith, bits-few t f norms)
@@ -161,7 +161,7 @@ module _ (r : Record) (cs : List ℕ) (x : ℕ) (ex : x ≡ first (startCauses r
       (back-first _ _ (start-numbered r (length cs)) (sym ex ∙ z) refl)
 
 -- what a layout of reply 0 tells
-pub record Laid (r : Record) (cs : List ℕ) : Type 0 where
+pub record LaidOut (r : Record) (cs : List ℕ) : Type 0 where
   pub start : Started r (length cs)
   pub fit : fits (map coding (kindsFor r)) (take 800 cs) ≡ true
   pub paid : codesLong (kindsFor r) (take 800 cs) ≤ budgetFor r
@@ -175,15 +175,15 @@ module _ (r : Record) (cs : List ℕ) where
   unfolding layoutCauses startCauses normCauses codeCauses
   layout-numbered = tt
 
-  pub layout-none : Laid r cs → first (layoutCauses r cs) ≡ 0
+  pub layout-none : LaidOut r cs → first (layoutCauses r cs) ≡ 0
   unfolding layoutCauses
   layout-none L = neither-first _ _ (start-none r (length cs) (L .start)) (codes-none _ _ _ (L .fit) (L .paid))
 
-  pub laid-out : Laid r cs → layoutOf r cs ≡ partsWith (budgetFor r) (ratesFor r) (codesLong (kindsFor r) (take 800 cs))
+  pub laid-out : LaidOut r cs → layoutOf r cs ≡ partsWith (budgetFor r) (ratesFor r) (codesLong (kindsFor r) (take 800 cs))
   unfolding layoutOf
   laid-out L = sym (by-yes _ (budgetFor r) (ratesFor r) _ (layout-none L))
 
-  pub laid-told : layoutOf r cs .reply ≡ 0 → Laid r cs
+  pub laid-told : layoutOf r cs .reply ≡ 0 → LaidOut r cs
   unfolding layoutCauses codeCauses
   laid-told e =
       let b = both-first _ (codeCauses (budgetFor r) (kindsFor r) (take 800 cs)) (start-numbered r (length cs)) (sym (layout-reply r cs) ∙ e) in

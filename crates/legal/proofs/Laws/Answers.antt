@@ -1,4 +1,4 @@
--- Laws of specs/Answers.
+-- Legal norms can be written, and norms that can be written stay; the answer by its test.
 -- Assumes nothing.
 use mathlib.Core.Path.{_≡_, ap, _∙_, subst⁻¹}
 use mathlib.Core.Bool.{Bool, true, false}
@@ -6,12 +6,12 @@ use mathlib.Core.List.{List}
 use Prim.Native.Nat.{ℕ, _≤_, min}
 use lib.ListN.{length, getD, set, replicate}
 use native.Mathlib.Omega.{arith}
-use Rattle.ground.proofs.Laws.Fills.{everywhere}
+use Rattle.ground.proofs.Laws.ListsByRule.{everywhere}
 use Rattle.ground.specs.Indices.{inRange}
 use Rattle.ground.proofs.Laws.Indices.{range-at}
 use Rattle.ground.specs.Replies.{done, outOfRange}
-use Rattle.order.specs.Order.{sent, banded}
-use Rattle.order.proofs.Laws.Order.{length-sent, length-banded, sent-banded, banded-sent, sent-each}
+use Rattle.order.specs.SentOrder.{sent, banded}
+use Rattle.order.proofs.Laws.SentOrder.{length-sent, length-banded, sent-banded, banded-sent, sent-each}
 use Rattle.norms.specs.Steps.{Near}
 use Rattle.legal.specs.Legal.{legalOf, legalSent, capped, lowered, held}
 use Rattle.legal.proofs.Laws.Legal.{capped-le, length-capped, legal-near, legal-same, length-legal}

@@ -8,9 +8,9 @@ use Prim.Native.Nat.{ℕ, zero, suc, _+_, _-_, _≤_, _<_, min}
 use native.Mathlib.Omega.{arith}
 use lib.ListN.{length, getD}
 use lib.Seq.{getD-set-same, getD-set-other}
-use Rattle.ground.specs.Fills.{getD-table, length-from, filled}
-use Rattle.order.specs.Order.{order, places, pick, sent, banded}
-use Rattle.order.proofs.Laws.Order.{place-band, band-place, banded-sent, length-sent}
+use Rattle.ground.proofs.Laws.ListsByRule.{getD-table, length-from, filled}
+use Rattle.order.specs.SentOrder.{order, places, pick, sent, banded}
+use Rattle.order.proofs.Laws.SentOrder.{place-band, band-place, banded-sent, length-sent}
 use Rattle.norms.specs.Steps.{Near}
 use Rattle.legal.specs.Legal.{capped, fallen, risen, lowered, held, legalSent, legalOf}
 use Rattle.legal.proofs.Laws.Legal.{Step, near-of, near-at, capped-le, capped-first, fallen-le, fallen-step, risen-le, risen-first, risen-step}

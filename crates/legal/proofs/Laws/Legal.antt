@@ -1,4 +1,4 @@
--- Laws of specs/Legal.
+-- The two passes in sent order: none raises an index, and after both every difference is −15 to 16.
 -- Assumes nothing.
 use mathlib.Core.Path.{_≡_, refl, sym, ap, _∙_}
 use mathlib.Core.List.{List, [], _∷_}
@@ -8,7 +8,7 @@ use native.Mathlib.Omega.{arith}
 use native.Mathlib.Decide.{ℕ-discrete}
 use lib.ListN.{length, getD, set, length-set}
 use lib.Seq.{getD-set-same, getD-set-other, set-getD}
-use Rattle.ground.specs.Fills.{length-from, getD-table, filled}
+use Rattle.ground.proofs.Laws.ListsByRule.{length-from, getD-table, filled}
 use Rattle.norms.specs.Steps.{Near}
 use Rattle.legal.specs.Legal.{capped, fallen, risen, lowered, held, legalSent}
 

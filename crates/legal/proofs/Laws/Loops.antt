@@ -6,8 +6,8 @@ use Prim.Native.Nat.{ℕ, suc, _+_, _-_, _≤_, _<_, min}
 use native.Mathlib.Omega.{arith}
 use native.Mathlib.Numerals.{add-one}
 use lib.ListN.{length, getD, set, replicate, length-set}
-use Rattle.ground.proofs.Laws.Fills.{everywhere, fill, fill-down}
-use Rattle.ground.specs.Fills.{length-from, getD-table, filled}
+use Rattle.ground.proofs.Laws.ListsByRule.{everywhere, fill, fill-down}
+use Rattle.ground.proofs.Laws.ListsByRule.{length-from, getD-table, filled}
 use Rattle.legal.specs.Legal.{fallen, risen, lowered, held}
 use Rattle.legal.proofs.Laws.Legal.{fallen-le}
 

@@ -4,15 +4,15 @@ use mathlib.Core.Path.{_≡_, refl, sym, _∙_}
 use Prim.Native.Nat.{ℕ, _+_, _-_, _<_}
 use lib.ListN.{length, set, length-set}
 use Rattle.ground.specs.Sums.{nth}
-use Rattle.contest.specs.Raised.{Game, contest}
-use Rattle.levels.specs.Inner.{bidAt, Finished, Flat, highest, Keyed, state}
-use Rattle.levels.proofs.Laws.Flat.{Next, best-zero, none-short}
-use Rattle.levels.proofs.Laws.State.{state-serve}
+use Rattle.contest.specs.RaisedContest.{Game, contest}
+use Rattle.levels.specs.Inner.{bidAt, Finished, AtStart, highest, Keyed, state}
+use Rattle.levels.proofs.Laws.LoopTurns.{Next, best-zero, none-short}
+use Rattle.levels.proofs.Laws.GameAsLists.{state-serve}
 
 -- the contest ends alike from both
 pub record Serving (keys rates₀ : List ℕ) (left₀ : ℕ) (rates : List ℕ) (left : ℕ) : Type 0 where
   pub whole : length rates ≡ 44
-  pub alike : (g : Game) → Flat g keys → contest 396 (state g rates₀ left₀) ≡ contest 396 (state g rates left)
+  pub alike : (g : Game) → AtStart g keys → contest 396 (state g rates₀ left₀) ≡ contest 396 (state g rates left)
 
 module _ {keys : List ℕ} where
   pub serving-first : {rates : List ℕ} {left : ℕ} → length rates ≡ 44 → Serving keys rates left rates left

@@ -1,7 +1,7 @@
 -- A bid by its three cases. Assumes nothing.
 use borrow.Author.Needs.{needs}
 use mathlib.Core.Path.{sym}
-use Rattle.levels.proofs.Laws.Flat.{bid-made, bid-nine, bid-short}
+use Rattle.levels.proofs.Laws.LoopTurns.{bid-made, bid-nine, bid-short}
 use Rattle.levels.proofs.bid_of.Statement.{statement}
 use Rattle.levels.proofs.bid_of.Tie as tie
 

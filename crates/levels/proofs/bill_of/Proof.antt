@@ -3,8 +3,8 @@ use Prim.Native.Nat.{_*_, _-_, _≤_}
 use borrow.Author.Needs.{needs}
 use mathlib.Core.Path.{sym}
 use native.Mathlib.Omega.{arith}
-use Rattle.ground.proofs.Laws.Filling.{Reaching, reaching, reaching-done}
-use Rattle.levels.proofs.Laws.Flat.{bill-low, bill-none, bill-turn, part-fits, size-at, sum-fits}
+use Rattle.ground.proofs.Laws.FillingLoops.{Reaching, reaching, reaching-done}
+use Rattle.levels.proofs.Laws.LoopTurns.{bill-low, bill-none, bill-turn, part-fits, size-at, sum-fits}
 use Rattle.levels.specs.Inner.{bill}
 use Rattle.levels.proofs.bill_of.Statement.{statement}
 use Rattle.levels.proofs.bill_of.Tie as tie

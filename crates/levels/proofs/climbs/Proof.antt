@@ -1,7 +1,7 @@
 -- The offers above the level, place by place. Assumes nothing.
 use Prim.Native.Nat.{_-_}
 use borrow.Author.Needs.{needs}
-use Rattle.ground.proofs.Laws.Filling.{Filling, filling}
+use Rattle.ground.proofs.Laws.FillingLoops.{Filling, filling}
 use Rattle.ground.specs.Sums.{nth}
 use Rattle.levels.specs.Inner.{climb}
 use Rattle.levels.proofs.climbs.Statement.{statement}

@@ -1,7 +1,7 @@
 -- The spot of a band, or 0 for one that does not compete. Assumes nothing.
 use borrow.Author.Needs.{needs}
 use mathlib.Core.Path.{_∙_, sym}
-use Rattle.levels.proofs.Laws.Whole.{key-no, key-yes}
+use Rattle.levels.proofs.Laws.ContestEnd.{key-no, key-yes}
 use Rattle.levels.proofs.key_of.Statement.{statement}
 use Rattle.levels.proofs.key_of.Tie as tie
 

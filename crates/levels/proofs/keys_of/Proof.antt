@@ -1,9 +1,9 @@
 -- The spots, place by place. Assumes nothing.
 use Prim.Native.Nat.{_-_}
 use borrow.Author.Needs.{needs}
-use Rattle.ground.proofs.Laws.Filling.{Filling, filling}
+use Rattle.ground.proofs.Laws.FillingLoops.{Filling, filling}
 use Rattle.ground.specs.Sums.{nth}
-use Rattle.levels.proofs.Laws.Whole.{keys-made, room-le}
+use Rattle.levels.proofs.Laws.ContestEnd.{keys-made, room-le}
 use Rattle.levels.specs.Inner.{keyOf}
 use Rattle.levels.proofs.keys_of.Statement.{statement}
 use Rattle.levels.proofs.keys_of.Tie as tie

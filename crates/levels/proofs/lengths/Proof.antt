@@ -1,7 +1,7 @@
 -- The lengths by band: both lists compute to the same. Assumes nothing.
 use mathlib.Core.Path.{refl}
 use Rattle.contest.specs.Bands.{lengthOf}
-use Rattle.ground.specs.Fills.{from}
+use Rattle.ground.specs.ListsByRule.{from}
 use Rattle.levels.proofs.lengths.Statement.{statement}
 use Rattle.levels.proofs.lengths.Tie as tie
 

@@ -2,7 +2,7 @@
 use Prim.Native.Nat.{_≤_}
 use borrow.Author.Needs.{needs}
 use mathlib.Core.Logic.{⊎-elim}
-use Rattle.levels.proofs.Laws.Flat.{bill-paid}
+use Rattle.levels.proofs.Laws.LoopTurns.{bill-paid}
 use Rattle.levels.specs.Inner.{bill}
 use Rattle.levels.proofs.level_of.Statement.{statement}
 use Rattle.levels.proofs.level_of.Tie as tie

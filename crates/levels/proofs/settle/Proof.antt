@@ -1,7 +1,7 @@
 -- What the calls promise, put together: the state they reach is the contest's end. Assumes nothing.
 use borrow.Author.Needs.{needs}
 use mathlib.Core.Path.{_∙_}
-use Rattle.levels.proofs.Laws.Whole.{climbs-long, keys-keyed, keys-low, reached}
+use Rattle.levels.proofs.Laws.ContestEnd.{climbs-long, keys-keyed, keys-low, reached}
 use Rattle.levels.proofs.settle.Statement.{statement}
 use Rattle.levels.proofs.settle.Tie as tie
 

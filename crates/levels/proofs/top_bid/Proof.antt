@@ -2,8 +2,8 @@
 use Prim.Native.Nat.{_-_}
 use borrow.Author.Needs.{needs}
 use mathlib.Core.Path.{sym}
-use Rattle.ground.proofs.Laws.Filling.{Reaching, reaching, reaching-done}
-use Rattle.levels.proofs.Laws.Flat.{bid-at, highest-more, highest-none, size-at}
+use Rattle.ground.proofs.Laws.FillingLoops.{Reaching, reaching, reaching-done}
+use Rattle.levels.proofs.Laws.LoopTurns.{bid-at, highest-more, highest-none, size-at}
 use Rattle.levels.specs.Inner.{bidAt, highest}
 use Rattle.levels.proofs.top_bid.Statement.{statement}
 use Rattle.levels.proofs.top_bid.Tie as tie

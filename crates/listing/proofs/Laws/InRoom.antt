@@ -7,11 +7,11 @@ use native.Mathlib.Omega.{arith}
 use borrow.Author.Tests.{lt-ltb, le-ltb, ltb-false}
 use lib.Dec.{ltb}
 use lib.ListN.{length}
-use Rattle.ground.specs.Cases.{by-bool}
+use Rattle.ground.proofs.Laws.Cases.{by-bool}
 use Rattle.ground.specs.Replies.{done, shortRoom}
 use Rattle.recording.specs.Walk.{walk, mostFrames}
 use Rattle.listing.specs.Text.{totalLine, tooLong}
-use Rattle.ground.specs.Laying.{laidText, Laid}
+use Rattle.ground.specs.Laying.{laidText, TextLaid}
 use Rattle.ground.proofs.Laws.Laying.{then, laid-front, length-laid}
 use Rattle.listing.specs.Listing.{lines, totalOf, mostBytes, listingOf, room, listedIn, outAfter}
 use Rattle.listing.proofs.Laws.Lengths.{walk-bounded, lines-short, total-short, listing-short}
@@ -49,14 +49,14 @@ unfolding listingOf
 listing-lines src h = rw (le-ltb mostBytes (length src) h)
 
 module _ (src out : List ℕ) (q : room ≤ length out) where
-  all-laid : {t out′ : List ℕ} {n : ℕ} → listingOf src ≡ t → Laid out 0 t out′ n → Kept src out out′ (madeListing done n)
+  all-laid : {t out′ : List ℕ} {n : ℕ} → listingOf src ≡ t → TextLaid out 0 t out′ n → Kept src out out′ (madeListing done n)
   unfolding listedIn outAfter
   all-laid {t} e l = (
     rw (le-ltb (length out) room q) (ap (madeListing done) (omega (arith, l .after, ap length e))),
     rw (le-ltb (length out) room q) (l .bytes ∙ ap (laidText out 0) (sym e) ∙ laid-front out (listingOf src) (omega (arith, listing-short src))),
   )
 
-  pub long-laid : {out′ : List ℕ} {n : ℕ} → mostBytes < length src → Laid out 0 tooLong out′ n → Kept src out out′ (madeListing done n)
+  pub long-laid : {out′ : List ℕ} {n : ℕ} → mostBytes < length src → TextLaid out 0 tooLong out′ n → Kept src out out′ (madeListing done n)
   long-laid h l = all-laid (listing-long src h) l
 
 -- the lines are put, and the total line has room behind them
@@ -72,8 +72,9 @@ module _ {src out out₁ : List ℕ} {r : Lines} (k : Complete src out out₁ r)
         omega (arith, total-short src h, lines-short mostFrames 0 src, ap length (k .bytes), length-laid out 0 (lines mostFrames 0 src)),
       )
 
-  pub total-laid : {out₂ : List ℕ} {n : ℕ} → Laid out₁ (r .next) (totalLine (r .count) (r .reply) (r .place)) out₂ n → Kept src out out₂ (madeListing done n)
+  pub total-laid : {out₂ : List ℕ} {n : ℕ} → TextLaid out₁ (r .next) (totalLine (r .count) (r .reply) (r .place)) out₂ n
+      → Kept src out out₂ (madeListing done n)
   total-laid {out₂} {n} l =
-      let m = subst (λ (z : Lines). Laid out₁ (z .next) (totalLine (z .count) (z .reply) (z .place)) out₂ n) (k .answer) l in
-      let f : Laid out 0 (lines mostFrames 0 src) out₁ (length (lines mostFrames 0 src)) = record { after = omega arith; bytes = k .bytes } in
+      let m = subst (λ (z : Lines). TextLaid out₁ (z .next) (totalLine (z .count) (z .reply) (z .place)) out₂ n) (k .answer) l in
+      let f : TextLaid out 0 (lines mostFrames 0 src) out₁ (length (lines mostFrames 0 src)) = record { after = omega arith; bytes = k .bytes } in
       all-laid src out q (listing-lines src h) (then f m)

@@ -7,18 +7,18 @@ use native.Mathlib.Omega.{arith}
 use borrow.Author.Tests.{ltb-false}
 use lib.Dec.{ltb}
 use lib.ListN.{length, drop, length-append}
-use Rattle.ground.specs.Cases.{by-bool}
+use Rattle.ground.proofs.Laws.Cases.{by-bool}
 use Rattle.ground.specs.Replies.{done, noData}
 use Rattle.prefix.specs.Sizes.{modeBytes}
 use Rattle.prefix.proofs.Laws.Sizes.{mode-bounds}
 use Rattle.frame.specs.Answers.{Outcome, refused, empty, sound}
 use Rattle.recording.specs.Walk.{storedAt, frameStep, walk, mostFrames}
 use Rattle.recording.proofs.Laws.Walk.{Fits, stored-fits}
-use Rattle.recording.proofs.Laws.Units.{Stop, ended, passed, met, walk-told}
-use Rattle.recording.proofs.Laws.Frames.{frame-lawful}
+use Rattle.recording.proofs.Laws.Units.{Stop, ended, passed, met, walk-says}
+use Rattle.recording.proofs.Laws.Frames.{frame-unit}
 use Rattle.recording.specs.declared.answer.Check.{Check}
 use Rattle.decimals.specs.Decimals.{decimal}
-use Rattle.decimals.proofs.Laws.Numbers.{length-digits, length-decimal}
+use Rattle.decimals.proofs.Laws.Digits.{length-digits, length-decimal}
 use Rattle.listing.specs.Text.{frameLine, totalLine}
 use Rattle.listing.specs.Listing.{lineOf, lines, totalOf, mostBytes, listingOf, room}
 
@@ -67,12 +67,12 @@ pub record Bounded (src : List ℕ) (w : Check) : Type 0 where
 stop-small : (n : ℕ) (rest : List ℕ) (w : Check) → Stop frameStep n rest w → w .reply < 100
 stop-small n rest w (ended e q) = omega arith
 stop-small n rest w (passed e q h) = omega arith
-stop-small n rest w (met h l e) = let f = frame-lawful .number rest (w .reply) h e in omega (arith, f .1)
+stop-small n rest w (met h l e) = let f = frame-unit .number rest (w .reply) h e in omega (arith, f .1)
 
 pub walk-bounded : (src : List ℕ) → Bounded src (walk mostFrames src)
 walk-bounded src =
     let w = walk mostFrames src in
-    let t = walk-told frame-lawful mostFrames src in
+    let t = walk-says frame-unit mostFrames src in
     record {
       few = t .few;
       number = stop-small mostFrames (t .rest) w (t .stop);

@@ -8,9 +8,9 @@ use borrow.Author.Tests.{eq-eqb, ne-eqb, eqb-true, eqb-false}
 use lib.Dec.{eqb}
 use lib.ListN.{length, drop, length-append}
 use lib.Seq.{drop-drop}
-use Rattle.ground.specs.Cases.{by-bool}
+use Rattle.ground.proofs.Laws.Cases.{by-bool}
 use Rattle.ground.specs.Replies.{done, tooMany, noData}
-use Rattle.ground.specs.Laying.{laidText, Laid}
+use Rattle.ground.specs.Laying.{laidText, TextLaid}
 use Rattle.ground.proofs.Laws.Laying.{then, laid-long, laid-none}
 use Rattle.prefix.specs.Sizes.{modeBytes}
 use Rattle.prefix.proofs.Laws.Sizes.{mode-bounds}
@@ -19,7 +19,7 @@ use Rattle.recording.specs.Walk.{stops, passes, storedAt, stepOf, frameStep, ne
 use Rattle.recording.specs.Blocks.{passingOf}
 use Rattle.recording.proofs.Laws.Walk.{Fits, stored-fits}
 use Rattle.recording.proofs.Laws.Walked.{Walked, Stepped, walked-none, walked-end, walked-more, step-stops, step-passes, step-inside}
-use Rattle.recording.proofs.Laws.Frames.{frame-lawful}
+use Rattle.recording.proofs.Laws.Frames.{frame-unit}
 use Rattle.recording.specs.declared.answer.Passing.{Passing}
 use Rattle.listing.specs.Text.{frameLine}
 use Rattle.listing.specs.Listing.{lineOf, lines, room}
@@ -54,7 +54,7 @@ module _ (number x : ℕ) where
     unfolding stepLine
     line-refused n m = rw (z, ne-eqb x done n, ne-eqb x tooMany m) refl
 
-pub laid-nothing : (s : List ℕ) (at : ℕ) → Laid s at [] s at
+pub laid-nothing : (s : List ℕ) (at : ℕ) → TextLaid s at [] s at
 unfolding laidText
 laid-nothing s at = record { after = omega arith; bytes = refl }
 
@@ -106,7 +106,7 @@ lines-pass (suc n) number (b ∷ s) x k e =
 pub record Listed (src out₀ out : List ℕ) (next count place : ℕ) : Type 0 where
   pub walked : Walked frameStep src place count
   pub text : List ℕ
-  pub laid : Laid out₀ 0 text out next
+  pub laid : TextLaid out₀ 0 text out next
   pub whole : lines mostFrames 0 src ≡ text ++ lines (mostFrames - count) count (drop place src)
 
 pub listed-none : {src out : List ℕ} → Listed src out out 0 0 0
@@ -126,7 +126,7 @@ module _ {src out₀ out : List ℕ} {next count place : ℕ} {p : Passing} (T :
 
   -- the frame lies in the source
   pub listed-inside : place + p .bytes ≤ length src
-  listed-inside = step-inside frame-lawful stepped
+  listed-inside = step-inside frame-unit stepped
 
   -- the line of the step, the lines that are left, and those behind a sound frame
   abbrev line : List ℕ
@@ -140,12 +140,12 @@ module _ {src out₀ out : List ℕ} {next count place : ℕ} {p : Passing} (T :
 
   stopped-left : p .bytes ≡ 0 → left ≡ line
   stopped-left z =
-      lines-stop (mostFrames - count) count (drop place src) (p .reply) (step-stops frame-lawful stepped z) ∙ ap (stepLine count (p .reply)) (sym z)
+      lines-stop (mostFrames - count) count (drop place src) (p .reply) (step-stops frame-unit stepped z) ∙ ap (stepLine count (p .reply)) (sym z)
 
   passed-left : (p .bytes ≡ 0 → ⊥) → left ≡ line ++ behind
   passed-left z =
       let n : mostFrames - count - 1 ≡ mostFrames - (count + 1) = omega arith in
-      lines-pass (mostFrames - count) count (drop place src) (p .reply) (p .bytes) (step-passes frame-lawful stepped z)
+      lines-pass (mostFrames - count) count (drop place src) (p .reply) (p .bytes) (step-passes frame-unit stepped z)
       ∙ ap₂ (λ (k : ℕ) (s : List ℕ). line ++ lines k (count + 1) s) n (drop-drop (p .bytes) place src)
 
   first : length line ≤ length left
@@ -159,14 +159,14 @@ module _ {src out₀ out : List ℕ} {next count place : ℕ} {p : Passing} (T :
   listed-room q =
       omega (arith, P .laid .after, laid-long (P .laid), first, ap length (P .whole), length-append (P .text) left, lines-short mostFrames 0 src)
 
-  module _ {out′ : List ℕ} {next′ : ℕ} (m : Laid out next line out′ next′) where
+  module _ {out′ : List ℕ} {next′ : ℕ} (m : TextLaid out next line out′ next′) where
     -- the last step
     pub listed-end : p .bytes ≡ 0 → Complete src out₀ out′ (madeLines (madeCheck (p .reply) count place) next′)
     listed-end z =
         let l = then (P .laid) m in
         let e : lines mostFrames 0 src ≡ P .text ++ line = P .whole ∙ ap (λ (t : List ℕ). P .text ++ t) (stopped-left z) in
         record {
-          answer = ap₂ madeLines (walked-end frame-lawful stepped z) (omega (arith, l .after, ap length e));
+          answer = ap₂ madeLines (walked-end frame-unit stepped z) (omega (arith, l .after, ap length e));
           bytes = l .bytes ∙ ap (laidText out₀ 0) (sym e);
         }
 
@@ -174,7 +174,7 @@ module _ {src out₀ out : List ℕ} {next count place : ℕ} {p : Passing} (T :
     pub listed-more : (p .bytes ≡ 0 → ⊥) → Listed src out₀ out′ next′ (count + 1) (place + p .bytes)
     listed-more z =
         record {
-          walked = walked-more frame-lawful stepped z;
+          walked = walked-more frame-unit stepped z;
           text = P .text ++ line;
           laid = then (P .laid) m;
           whole = P .whole ∙ ap (λ (t : List ℕ). P .text ++ t) (passed-left z) ∙ sym (append-assoc (P .text) line behind);

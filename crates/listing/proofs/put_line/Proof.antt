@@ -7,7 +7,7 @@ use lib.ListN.{length}
 use Rattle.decimals.specs.Decimals.{decimal, digits}
 use Rattle.listing.specs.Text.{frameLine}
 use Rattle.ground.proofs.Laws.Laying.{laid-long, then}
-use Rattle.decimals.proofs.Laws.Numbers.{length-digits}
+use Rattle.decimals.proofs.Laws.Digits.{length-digits}
 use Rattle.listing.proofs.Laws.Lengths.{length-line}
 use borrow.Author.Needs.{needs}
 use Rattle.listing.proofs.put_line.Statement.{statement}
@@ -21,8 +21,8 @@ four : (a : tie.Start) → length (digits 4 (a .args .number)) ≡ 4
 four a = length-digits 4 (a .args .number)
 
 -- the reply as a number
-reply : (w : tie.After-wide8) → let a : tie.Start = search in length (decimal (w .wide8 .result)) ≡ length (decimal (a .args .reply))
-reply w = ap (λ (n : ℕ). length (decimal n)) (w .wide8 .ensures .0)
+reply : (w : tie.After-size-from-u8) → let a : tie.Start = search in length (decimal (w .size-from-u8 .result)) ≡ length (decimal (a .args .reply))
+reply w = ap (λ (n : ℕ). length (decimal n)) (w .size-from-u8 .ensures .0)
 
 returns : tie.Need-returns
 unfolding frameLine
@@ -30,9 +30,9 @@ returns c =
     let p4 : tie.After-put = search in
     let p3 : tie.After-put-number2 = search in
     let p2 : tie.After-put-number = search in
-    let w : tie.After-wide8 = search in
+    let w : tie.After-size-from-u8 = search in
     let p1 : tie.After-put-digits = search in
-    rw (← w .wide8 .ensures .0)
+    rw (← w .size-from-u8 .ensures .0)
     (then (p1 .put-digits .ensures) (then (p2 .put-number .ensures) (then (p3 .put-number2 .ensures) (p4 .put .ensures))))
 
 pub put-line-spec : {M : Type 1} → statement M

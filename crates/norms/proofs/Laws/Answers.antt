@@ -1,4 +1,4 @@
--- Laws of specs/Answers.
+-- The norms' causes by their tests, the FlagN choice, and that 0 is answered exactly for norms that can be written.
 -- Assumes nothing.
 use mathlib.Core.Path.{_≡_, sym, ap, _∙_}
 use mathlib.Core.Bool.{Bool, true, false}
@@ -8,14 +8,14 @@ use lib.Dec.{ltb}
 use lib.ListN.{length, getD, drop, replicate}
 use native.Mathlib.Omega.{arith}
 use borrow.Author.Tests.{not-false, lt-ltb, le-ltb, ltb-true, ltb-false, eq-eqb, ne-eqb}
-use Rattle.ground.specs.Cases.{by-bool}
+use Rattle.ground.proofs.Laws.Cases.{by-bool}
 use Rattle.ground.proofs.Laws.Indices.{range-yes, range-at}
 use Rattle.ground.specs.Replies.{done}
 use Rattle.ground.proofs.Laws.Refusals.{first-none, by-rows}
 use Rattle.bits.specs.Codecs.{writeAll}
 use Rattle.words.specs.Tables.{coding}
-use Rattle.order.specs.Order.{sent}
-use Rattle.order.proofs.Laws.Order.{length-sent, sent-first, sent-each, each-sent}
+use Rattle.order.specs.SentOrder.{sent}
+use Rattle.order.proofs.Laws.SentOrder.{length-sent, sent-first, sent-each, each-sent}
 use Rattle.norms.specs.Steps.{Near}
 use Rattle.norms.proofs.Laws.Steps.{length-numbers, near-range, near-first, steps-near}
 use Rattle.norms.specs.Part.{numbersOf, normKinds, normBits, Writable}

@@ -7,13 +7,13 @@ use Prim.Native.Nat.{ℕ, zero, suc, _<_}
 use native.Mathlib.Omega.{arith}
 use lib.ListN.{length, replicate, length-map}
 use Rattle.bits.specs.Codings.{got, no, Fit}
-use Rattle.bits.specs.Codecs.{Check, fine, bad, words, readAll, FitAll}
+use Rattle.bits.specs.Codecs.{Verdict, fine, bad, words, readAll, FitAll}
 use Rattle.bits.specs.declared.Refusal.{Refusal}
 use Rattle.bits.proofs.Laws.Codecs.{Lawful, words-lawful, checked-lawful, fit-length}
 use Rattle.words.specs.Tables.{coding, table16, words as wordsOf}
 use Rattle.words.proofs.Laws.Tables.{coding-fixed, coding-column, all-good}
-use Rattle.order.specs.Order.{sent, banded}
-use Rattle.order.proofs.Laws.Order.{sent-banded, banded-sent, length-banded, length-sent}
+use Rattle.order.specs.SentOrder.{sent, banded}
+use Rattle.order.proofs.Laws.SentOrder.{sent-banded, banded-sent, length-banded, length-sent}
 use Rattle.norms.specs.Steps.{numbers, indices, Near}
 use Rattle.norms.specs.Part.{normKinds, Writable, inBands, normsOf, numbersOf, normBits, normPart}
 use Rattle.norms.proofs.Laws.Steps.{Below, indices-sound, indices-whole, length-numbers}
@@ -63,7 +63,7 @@ kinds-long flagN = refl
 -- ---- the codec
 
 module _ (transient flagN : Bool) where
-  bands-fine : (c : Check (List ℕ)) (norms : List ℕ) → inBands transient c ≡ fine norms → (ss : List ℕ) × (c ≡ fine ss) × (banded transient ss ≡ norms)
+  bands-fine : (c : Verdict (List ℕ)) (norms : List ℕ) → inBands transient c ≡ fine norms → (ss : List ℕ) × (c ≡ fine ss) × (banded transient ss ≡ norms)
   bands-fine (fine ss) norms e = (ss, refl, (cc))
   bands-fine (bad x) norms e = absurd (let z : _≡_ {A = ℕ} 0 1 = cc in omega arith)
 

@@ -10,25 +10,25 @@ use lib.Dec.{leb}
 use lib.ListN.{length, getD, take, drop, set, replicate, length-set, drop-of-length-le, take-append-drop}
 use lib.Seq.{drop-cons, take-suc-set}
 use borrow.Author.Tests.{lt-leb, le-leb}
-use Rattle.bits.specs.Codecs.{Check, fine, bad}
+use Rattle.bits.specs.Codecs.{Verdict, fine, bad}
 use Rattle.bits.specs.declared.Refusal.the-variants.{Outside}
-use Rattle.ground.specs.Fills.{filled}
-use Rattle.ground.proofs.Laws.Fills.{fill}
+use Rattle.ground.proofs.Laws.ListsByRule.{filled}
+use Rattle.ground.proofs.Laws.ListsByRule.{fill}
 use Rattle.norms.specs.Steps.{indices, numbers, guarded, close, stepsClose}
 use Rattle.norms.specs.Inner.{indicesOf}
 use Rattle.norms.proofs.Laws.Steps.{numberAt, numbers-table}
 
 -- ---- indices from numbers: the first i stand in out, and the last of them is x
 
-abbrev pub onto : List ℕ → Check (List ℕ) → Check (List ℕ)
+abbrev pub onto : List ℕ → Verdict (List ℕ) → Verdict (List ℕ)
 onto us (fine vs) = fine (us ++ vs)
 onto us (bad k) = bad k
 
-onto-nil : (a : Check (List ℕ)) → a ≡ onto [] a
+onto-nil : (a : Verdict (List ℕ)) → a ≡ onto [] a
 onto-nil (fine vs) = refl
 onto-nil (bad k) = refl
 
-onto-one : (us : List ℕ) (y : ℕ) (a : Check (List ℕ)) → onto us (guarded true true y a) ≡ onto (us ++ (y ∷ [])) a
+onto-one : (us : List ℕ) (y : ℕ) (a : Verdict (List ℕ)) → onto us (guarded true true y a) ≡ onto (us ++ (y ∷ [])) a
 onto-one us y (fine vs) = ap fine (sym (append-assoc us (y ∷ []) vs))
 onto-one us y (bad k) = refl
 

@@ -7,18 +7,18 @@ use Prim.Native.Nat.{ℕ, zero, suc, _+_, _*_, _≤_, _<_}
 use native.Mathlib.Omega.{arith}
 use lib.Dec.{T, leb, leb→le}
 use lib.ListN.{length, getD, replicate, length-append}
-use Rattle.ground.specs.Cases.{and-T}
-use Rattle.ground.specs.Tables.{every, every-at}
+use Rattle.ground.proofs.Laws.Cases.{and-T}
+use Rattle.ground.proofs.Laws.PrintedTables.{every, every-at}
 use Rattle.bits.specs.Bits.{word, laid}
-use Rattle.bits.proofs.Laws.Numbers.{length-word}
+use Rattle.bits.proofs.Laws.NumbersAsBits.{length-word}
 use Rattle.bits.specs.Codings.{Coding, wordOf, Fit}
 use Rattle.bits.specs.Codecs.{words, writeAll, FitAll}
 use Rattle.words.specs.Tables.{coding, table16, words as wordsOf}
 use Rattle.words.proofs.Laws.Tables.{coding-fixed, coding-column}
 use Rattle.bits.proofs.Laws.Codings.{word-fixed}
-use Rattle.words.proofs.Laws.Spell.{word-column}
+use Rattle.words.proofs.Laws.WritingTable.{word-column}
 use Rattle.runs.proofs.Laws.Writes.{run-few}
-use Rattle.order.specs.Order.{sent}
+use Rattle.order.specs.SentOrder.{sent}
 use Rattle.norms.specs.Steps.{numbers}
 use Rattle.norms.specs.Part.{normKinds, Writable, numbersOf, normBits}
 use Rattle.norms.proofs.Laws.Codec.{kinds-long, norms-whole}

@@ -10,7 +10,7 @@ use Rattle.ground.specs.Replies.{done, normOutside}
 use Rattle.bits.specs.Bits.{view}
 use Rattle.bits.proofs.Laws.Views.{length-view}
 use Rattle.bits.specs.Codings.{got}
-use Rattle.bits.specs.Codecs.{Check, fine, bad, readAll}
+use Rattle.bits.specs.Codecs.{Verdict, fine, bad, readAll}
 use Rattle.bits.specs.declared.Refusal.{Refusal}
 use Rattle.bits.specs.declared.Refusal.the-variants.{Outside}
 use Rattle.words.specs.Tables.{coding}
@@ -18,7 +18,7 @@ use Rattle.runs.specs.Runs.{runAt, ran, runReply, readSome, over}
 use Rattle.runs.proofs.Laws.Runs.{run-not, run-filled}
 use Rattle.runs.specs.declared.Run.{Run}
 use Rattle.runs.specs.declared.Run.the-variants as run
-use Rattle.order.specs.Order.{banded}
+use Rattle.order.specs.SentOrder.{banded}
 use Rattle.norms.specs.Steps.{indices, guarded}
 use Rattle.norms.specs.Part.{normKinds, normPart}
 use Rattle.norms.proofs.Laws.Codec.{kinds-long, part-no, part-bad, part-got}
@@ -28,7 +28,7 @@ use Rattle.norms.specs.declared.Indices.{Indices}
 use lib.Dec.{leb}
 
 -- an index is refused with 5 alone
-guarded-bad : (a b : Bool) (y : ℕ) (c : Check (List ℕ)) (x : Refusal) → ((z : Refusal) → c ≡ bad z → z ≡ Outside) → guarded a b y c ≡ bad x → x ≡ Outside
+guarded-bad : (a b : Bool) (y : ℕ) (c : Verdict (List ℕ)) (x : Refusal) → ((z : Refusal) → c ≡ bad z → z ≡ Outside) → guarded a b y c ≡ bad x → x ≡ Outside
 guarded-bad true true y (fine ys) x h e = absurd (let z : _≡_ {A = ℕ} 0 1 = cc in omega arith)
 guarded-bad true true y (bad k) x h e = let q : k ≡ x = cc in sym q ∙ h k refl
 guarded-bad true false y c x h e = cc
@@ -66,7 +66,7 @@ module _ (s : List ℕ) (at end : ℕ) (transient flagN : Bool) (kinds : List �
         → record { reply = normOutside; next = 0; norms = replicate 44 0 } ≡ partOf at (end - at) (normPart transient flagN .read (view s at (end - at)))
     read-outside i g n = go (indices 15 ws) refl
       where
-        go : (c : Check (List ℕ)) → indices 15 ws ≡ c
+        go : (c : Verdict (List ℕ)) → indices 15 ws ≡ c
             → record { reply = normOutside; next = 0; norms = replicate 44 0 } ≡ partOf at (end - at) (normPart transient flagN .read (view s at (end - at)))
         go (fine ss) q =
             absurd (let y : _≡_ {A = Bool} true false = sym (ap (λ (j : Indices). j .sound) (g ∙ ap indicesOf q)) ∙ n in
@@ -82,7 +82,7 @@ module _ (s : List ℕ) (at end : ℕ) (transient flagN : Bool) (kinds : List �
         → record { reply = done; next = next; norms = norms } ≡ partOf at (end - at) (normPart transient flagN .read (view s at (end - at)))
     read-sound i norms g n m = go (indices 15 ws) refl
       where
-        go : (c : Check (List ℕ)) → indices 15 ws ≡ c
+        go : (c : Verdict (List ℕ)) → indices 15 ws ≡ c
             → record { reply = done; next = next; norms = norms } ≡ partOf at (end - at) (normPart transient flagN .read (view s at (end - at)))
         go (bad x) q =
             absurd (let y : _≡_ {A = Bool} false true = sym (ap (λ (j : Indices). j .sound) (g ∙ ap indicesOf q)) ∙ n in

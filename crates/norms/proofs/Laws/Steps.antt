@@ -10,8 +10,9 @@ use lib.Dec.{leb}
 use lib.ListN.{length, getD}
 use borrow.Author.Tests.{le-leb, leb-true}
 use Rattle.ground.proofs.Laws.Cases.{and-true}
-use Rattle.ground.specs.Fills.{table, filled}
-use Rattle.bits.specs.Codecs.{Check, fine, bad}
+use Rattle.ground.specs.ListsByRule.{table}
+use Rattle.ground.proofs.Laws.ListsByRule.{filled}
+use Rattle.bits.specs.Codecs.{Verdict, fine, bad}
 use Rattle.norms.specs.Steps.{numbers, guarded, indices, Near, close, stepsClose}
 
 -- ---- there and back
@@ -20,7 +21,7 @@ abbrev pub Below : List ℕ → Type 0
 Below [] = Unit {0}
 Below (w ∷ ws) = (w < 32) × Below ws
 
-guarded-fine : (a b : Bool) (y : ℕ) (c : Check (List ℕ)) (zs : List ℕ) → guarded a b y c ≡ fine zs
+guarded-fine : (a b : Bool) (y : ℕ) (c : Verdict (List ℕ)) (zs : List ℕ) → guarded a b y c ≡ fine zs
     → (ys : List ℕ) × (a ≡ true) × (b ≡ true) × (c ≡ fine ys) × (y ∷ ys ≡ zs)
 guarded-fine true true y (fine ys) zs e = (ys, refl, refl, refl, (cc))
 guarded-fine true true y (bad k) zs e = absurd (let z : _≡_ {A = ℕ} 0 1 = cc in omega arith)

@@ -1,6 +1,6 @@
 -- `norms::norm_reply` meets its contract, in 01's order. Assumes nothing.
 use mathlib.Core.Path.{_≡_, ap, _∙_}
-use Rattle.order.specs.Order.{sent}
+use Rattle.order.specs.SentOrder.{sent}
 use Rattle.ground.proofs.Laws.Refusals.{by-rows}
 use Rattle.norms.specs.Steps.{stepsClose}
 use Rattle.norms.specs.Answers.{normCauses}

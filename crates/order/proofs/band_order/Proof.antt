@@ -1,8 +1,8 @@
 -- `order::band_order` meets its contract: the table that is lent has each band's place in 01's order. Assumes nothing.
 use mathlib.Core.Path.{refl, _∙_}
 use borrow.Author.Tests.{not-true, not-false}
-use Rattle.order.specs.Order.{places}
-use Rattle.order.proofs.Laws.Order.{place-band, banded-plain, banded-turned}
+use Rattle.order.specs.SentOrder.{places}
+use Rattle.order.proofs.Laws.SentOrder.{place-band, banded-plain, banded-turned}
 use Rattle.order.proofs.band_order.Statement.{statement}
 use Rattle.order.proofs.band_order.Tie as tie
 

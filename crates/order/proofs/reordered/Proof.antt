@@ -5,9 +5,9 @@ use native.Mathlib.Omega.{arith}
 use denote.Ref.{now}
 use Prim.Native.Nat.{ℕ, _-_, _≤_, _<_}
 use lib.ListN.{length, getD, length-set}
-use Rattle.ground.proofs.Laws.Fills.{fill}
-use Rattle.ground.specs.Fills.{filled}
-use Rattle.order.specs.Order.{pick}
+use Rattle.ground.proofs.Laws.ListsByRule.{fill}
+use Rattle.ground.proofs.Laws.ListsByRule.{filled}
+use Rattle.order.specs.SentOrder.{pick}
 use Rattle.order.proofs.reordered.Statement.{statement}
 use Rattle.order.proofs.reordered.Tie as tie
 

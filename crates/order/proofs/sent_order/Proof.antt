@@ -1,8 +1,8 @@
 -- `order::sent_order` meets its contract: the table that is lent is 01's order. Assumes nothing.
 use mathlib.Core.Path.{refl, _∙_}
 use borrow.Author.Tests.{not-true, not-false}
-use Rattle.order.specs.Order.{order}
-use Rattle.order.proofs.Laws.Order.{band-place, sent-plain, sent-turned}
+use Rattle.order.specs.SentOrder.{order}
+use Rattle.order.proofs.Laws.SentOrder.{band-place, sent-plain, sent-turned}
 use Rattle.order.proofs.sent_order.Statement.{statement}
 use Rattle.order.proofs.sent_order.Tie as tie
 

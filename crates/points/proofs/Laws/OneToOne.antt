@@ -1,4 +1,4 @@
--- Laws of specs/OneToOne.
+-- At rates 2 to 9 indices and points match one to one, once over the rate; every other rate is refused.
 -- Assumes nothing.
 use mathlib.Core.Path.{_≡_, sym, ap, _∙_}
 use mathlib.Core.Bool.{true, false}
@@ -11,7 +11,7 @@ use lib.Dec.{ltb, leb}
 use lib.ListN.{length, getD}
 use lib.IntN.{ℤ}
 use lib.Pow.{pow-pos}
-use Rattle.ground.specs.Cases.{by-bool}
+use Rattle.ground.proofs.Laws.Cases.{by-bool}
 use Rattle.ground.specs.Replies.{done, outOfRange}
 use Rattle.lattice.specs.Lattice.{point, back}
 use Rattle.points.specs.Answers.{below, agree, owns, pointOf, indexOf, noPoint, noIndex}

@@ -16,11 +16,11 @@ use lib.IntN.{ℤ, pos, negsuc}
 use lib.Signed.{mag}
 use mir.Syntax.{w16}
 use mir.Val.{toZ, ofZ}
-use Rattle.ground.specs.Cases.{by-bool}
+use Rattle.ground.proofs.Laws.Cases.{by-bool}
 use Rattle.ground.proofs.Laws.Cases.{and-true}
 use Rattle.ground.specs.Replies.{done}
-use Rattle.ground.specs.Whole.{Is}
-use Rattle.ground.proofs.Laws.Whole.{is-same}
+use Rattle.ground.specs.Differences.{Is}
+use Rattle.ground.proofs.Laws.Differences.{is-same}
 use Rattle.lattice.specs.Inner.{Power}
 use Rattle.lattice.specs.Lattice.{sumZ, point, back}
 use Rattle.lattice.proofs.Laws.Lattice.{sumZ-more}

@@ -5,9 +5,9 @@ use native.Mathlib.Omega.{arith}
 use borrow.Author.Needs.{needs}
 use lib.ListN.{getD}
 use lib.IntN.{pos}
-use Rattle.ground.proofs.Laws.Whole.{is-same, is-sub}
+use Rattle.ground.proofs.Laws.Differences.{is-same, is-sub}
 use Rattle.ground.proofs.Laws.Signed.{read}
-use Rattle.lattice.proofs.Laws.Signed.{first-is}
+use Rattle.lattice.proofs.Laws.WayBack.{first-is}
 use Rattle.points.proofs.back_first.Statement.{statement}
 use Rattle.points.proofs.back_first.Tie as tie
 

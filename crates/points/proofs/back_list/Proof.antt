@@ -3,7 +3,7 @@ use mathlib.Core.Path.{refl, ap, _∙_}
 use Prim.Native.Nat.{ℕ, _-_, _≤_}
 use native.Mathlib.Omega.{arith}
 use borrow.Author.Needs.{needs}
-use Rattle.ground.proofs.Laws.Filling.{Filling, filling-one, filling-more, filling-done}
+use Rattle.ground.proofs.Laws.FillingLoops.{Filling, filling-one, filling-more, filling-done}
 use Rattle.lattice.specs.Lattice.{back, backAt}
 use Rattle.points.proofs.back_list.Statement.{statement}
 use Rattle.points.proofs.back_list.Tie as tie

@@ -3,7 +3,7 @@ use native.Mathlib.Nat.{mod-lt}
 use native.Mathlib.Omega.{arith}
 use borrow.Author.Needs.{needs}
 use Rattle.ground.proofs.Laws.Signed.{read}
-use Rattle.lattice.proofs.Laws.Signed.{other-is}
+use Rattle.lattice.proofs.Laws.WayBack.{other-is}
 use Rattle.points.proofs.back_other.Statement.{statement}
 use Rattle.points.proofs.back_other.Tie as tie
 

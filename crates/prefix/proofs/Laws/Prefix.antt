@@ -1,4 +1,4 @@
--- Laws of specs/Prefix.
+-- The prefix byte: its fields, what it says case by case, that R does not matter, and that the byte of a mode reads as its L.
 -- Assumes nothing.
 use mathlib.Core.Path.{_≡_, refl, sym, ap, _∙_}
 use mathlib.Core.Bool.{Bool, true, false, cond}
@@ -8,7 +8,7 @@ use native.Mathlib.Omega.{arith}
 use lib.Dec.{eqb, ltb}
 use lib.ListN.{length, getD}
 use borrow.Author.Tests.{eq-eqb, ne-eqb, lt-ltb, le-ltb, ltb-true, ltb-false, eqb-false}
-use Rattle.ground.specs.Cases.{by-bool}
+use Rattle.ground.proofs.Laws.Cases.{by-bool}
 use Rattle.prefix.specs.Sizes.{Size, noBody, notGiven, sized, tableA2, lengthOf}
 use Rattle.prefix.proofs.Laws.Sizes.{a2-none, a2-low, a2-high, a2-sized, same-size, length-mode, no-length}
 use Rattle.prefix.specs.declared.NamedField.{NamedField}

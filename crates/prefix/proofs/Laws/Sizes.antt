@@ -1,4 +1,4 @@
--- Laws of specs/Sizes.
+-- Tables 22 and A.2 name the same sizes; modes and fields L each by the formulas of the code.
 -- Assumes nothing.
 use mathlib.Core.Path.{_≡_, refl, sym, ap, _∙_}
 use mathlib.Core.Bool.{Bool, false, not, _&&_}
@@ -7,8 +7,8 @@ use native.Mathlib.Omega.{arith}
 use lib.Dec.{T, T-not, eqb, ltb, leb, eqb→eq, leb→le}
 use lib.ListN.{length, getD, List·getD-eq-default}
 use borrow.Author.Tests.{eq-eqb, ne-eqb, lt-ltb, le-ltb, le-leb, lt-leb, ltb-true, ltb-false, leb-true, leb-false}
-use Rattle.ground.specs.Cases.{by-bool, and-T}
-use Rattle.ground.specs.Tables.{every, every-at}
+use Rattle.ground.proofs.Laws.Cases.{by-bool, and-T}
+use Rattle.ground.proofs.Laws.PrintedTables.{every, every-at}
 use Rattle.prefix.specs.declared.Mode.{Mode}
 use Rattle.prefix.specs.declared.Length.{Length}
 use Rattle.prefix.specs.declared.NamedField.{NamedField}

@@ -7,7 +7,7 @@ use Prim.Native.Nat.{ℕ, _+_, _*_, _≤_, _<_}
 use native.Mathlib.Omega.{arith}
 use lib.ListN.{length, take, drop}
 use borrow.Author.Tests.{eq-eqb}
-use Rattle.ground.specs.Cases.{by-bool}
+use Rattle.ground.proofs.Laws.Cases.{by-bool}
 use Rattle.ground.specs.Replies.{done, cut, notAsBooked, tooMany, wrongChannels}
 use Rattle.ground.specs.Runs.{runs, part}
 use Rattle.ground.proofs.Laws.Runs.{runs-same}
@@ -25,11 +25,11 @@ use Rattle.block_writer.specs.Writing as writing
 use Rattle.block_writer.specs.declared.Records.{Records}
 use Rattle.block_writer.proofs.Laws.RoundTrips as round
 use Rattle.channels.specs.Copies.{checkAnswer, extracted, extractAnswer, extractAfter, madeCopy}
-use Rattle.joining.specs.Joining.{ownCheck, recordingAt, startOf, joined, joinedOf, joinAnswer, joinAfter, Lying, Joinable}
+use Rattle.joining.specs.Joining.{ownCheck, recordingAt, startOf, joined, joinedOf, joinAnswer, joinAfter, InSource, Joinable}
 use Rattle.channels.specs.declared.Copied.{Copied}
 use Rattle.channels.proofs.Laws.Extracting.{among-of, extract-done}
 use Rattle.joining.proofs.Laws.Channels.{joined-blocks, extracted-joined, extracted-frames, joined-extracted}
-use Rattle.joining.proofs.Laws.JoinTold.{join-told, join-made, joined-is, joined-length}
+use Rattle.joining.proofs.Laws.JoinedRecordings.{join-told, join-made, joined-is, joined-length}
 use Rattle.channels.proofs.Laws.Walks.{walk-made, check-counted}
 use Rattle.joining.proofs.Laws.Joining.{length-recording}
 use Rattle.channels.proofs.Laws.Cuts as cuts
@@ -49,12 +49,12 @@ whole-blocks src n booking e =
     (λ t.
     let c = blocks.counted n t in
     let q : checkAnswer src n booking ≡ checkBlocks n src booking = rw t refl in
-    let w = checked.check-whole (blocks.block-lawful n (c .0)) src booking .0 (sym (ap (λ (x : Check). x .reply) q) ∙ e) in
+    let w = checked.check-whole (blocks.block-unit n (c .0)) src booking .0 (sym (ap (λ (x : Check). x .reply) q) ∙ e) in
     (c .0, c .1, w .0, w .1))
     (λ t. absurd (let q : checkAnswer src n booking ≡ madeCheck wrongChannels 0 0 = rw t refl in
     let y = sym (ap (λ (x : Check). x .reply) q) ∙ e in omega (arith, y)))
 
-lying : {src lengths : List ℕ} {k : ℕ} → Joinable src lengths k → Lying src lengths
+lying : {src lengths : List ℕ} {k : ℕ} → Joinable src lengths k → InSource src lengths
 lying J = record { few = J .most; inside = J .inside }
 
 -- joined are exactly 1 to 8 sound recordings (Joinable: they lie one behind the other in the source, each is k sound frames, at most 3,000), given room for as
@@ -110,7 +110,7 @@ join-checks-sound src lengths room e =
     let q : joinAnswer src lengths room .count ≡ k = ap (λ (y : Copied). y .count) (D .answer) in
     rw (blocks.is-counted n (J .some) (J .most))
     (ap (checkBlocks n (joinedOf src lengths)) q
-    ∙ checked.all-booked (blocks.block-lawful n (J .some)) (joined-blocks n k (recordingAt src lengths) (J .sound)) k (J .few) refl
+    ∙ checked.all-booked (blocks.block-unit n (J .some)) (joined-blocks n k (recordingAt src lengths) (J .sound)) k (J .few) refl
     ∙ ap (λ (j : ℕ). madeCheck done j (length (joinedOf src lengths))) (sym q))
 
 join-of-all-channels : (s : List ℕ) (n k : ℕ) → checkAnswer s n k .reply ≡ done
@@ -142,7 +142,7 @@ complete-blocks : (src : List ℕ) (n booking : ℕ)
 unfolding checkAnswer
 complete-blocks src n booking = (
   whole-blocks src n booking,
-  λ a b B h. rw (blocks.is-counted n a b) (checked.check-whole (blocks.block-lawful n a) src booking .1 B h),
+  λ a b B h. rw (blocks.is-counted n a b) (checked.check-whole (blocks.block-unit n a) src booking .1 B h),
 )
 
 -- k sound blocks and a part of the next, at least a byte of it and not the whole: 4 at that block's place. Only behind 3,000 blocks, where no byte is read any
@@ -160,7 +160,7 @@ cut-between-blocks : {n k : ℕ} {s : List ℕ} → 1 ≤ n → n ≤ 8 → Bloc
     × ((k ≡ booking → ⊥) → checkAnswer s n booking ≡ record { reply = notAsBooked; count = k; place = length s })
 unfolding checkAnswer
 cut-between-blocks {n} {k} {s} a b B few booking =
-    let L = blocks.block-lawful n a in
+    let L = blocks.block-unit n a in
     (λ e. rw (blocks.is-counted n a b) (checked.all-booked L B booking few e), λ e. rw (blocks.is-counted n a b) (checked.all-unbooked L B booking few e))
 
 -- ---- blocks read and written
@@ -175,7 +175,8 @@ module _ (src : List ℕ) (n : ℕ) (codes tails : List ℕ) where
   read-done z = reply-made (λ (b : Block). b .reply) (reading.blockReply src n (length codes) (length tails)) _ _ refl z
 
 written-done : (r : Records) (n : ℕ) (codes tails out : List ℕ)
-    → writing.blockAnswer (writing.blockReply r n codes tails (length out)) r n codes tails .reply ≡ done → writing.blockReply r n codes tails (length out) ≡ done
+    → writing.blockAnswer (writing.blockReply r n codes tails (length out)) r n codes tails .reply ≡ done
+    → writing.blockReply r n codes tails (length out) ≡ done
 written-done r n codes tails out z = reply-made (λ (w : Writing). w .reply) (writing.blockReply r n codes tails (length out)) _ _ refl z
 
 trips : BlockTrips

@@ -9,12 +9,12 @@ use lib.Dec.{eqb, ltb, leb}
 use lib.IntN.{ℤ, pos}
 use lib.ListN.{length, take, replicate}
 use borrow.Author.Tests.{eq-eqb, ne-eqb, eqb-true}
-use Rattle.ground.specs.Cases.{by-bool}
-use Rattle.ground.specs.Fills.{from}
+use Rattle.ground.proofs.Laws.Cases.{by-bool}
+use Rattle.ground.specs.ListsByRule.{from}
 use Rattle.ground.specs.Indices.{inRange}
-use Rattle.ground.specs.Replies.{done}
+use Rattle.ground.specs.Replies.{done, wrongChannels}
 use Rattle.words.specs.Tables.{coding}
-use Rattle.prefix.specs.Prefix.{prefixOf, byteOf, readingOf as prefixReading, writingOf as prefixWriting, Reading as PrefixAnswer, Writing as ByteAnswer}
+use Rattle.prefix.specs.Prefix.{prefixOf, byteOf, readingOf as prefixReading, writingOf as prefixWriting, PrefixReading}
 use Rattle.prefix.specs.declared.Prefix.{Prefix}
 use Rattle.prefix.specs.declared.Prefix.the-variants.{Data, NoData, NoByte, Marked, Reserved}
 use Rattle.prefix.specs.declared.Byte.{Byte}
@@ -46,10 +46,14 @@ use Rattle.listing.specs.Listing.{listedIn, outAfter, room}
 use Rattle.listing.specs.declared.Listing.{Listing}
 use Rattle.recording.specs.Walk.{walk, booked, mostFrames, checkOver, checkOf}
 use Rattle.recording.specs.declared.answer.Check.{Check}
+use Rattle.recording.specs.Blocks.{isCount, checkBlocks}
+use Rattle.recording.proofs.Laws.Blocks.{block-unit, counted}
+use Rattle.recording.proofs.Laws.Checked.{check-replies}
 use Rattle.block_reader.specs.Reading as blockRead
 use Rattle.block_reader.specs.declared.Block.{Block}
 use Rattle.block_writer.specs.Writing as blockWritten
-use Rattle.channels.specs.Copies.{extractAnswer}
+use Rattle.channels.specs.Copies.{checkAnswer, madeCopy, refusedCopy, stoppedCopy, extractAnswer}
+use Rattle.channels.specs.declared.Copied.{Copied}
 use Rattle.joining.specs.Joining.{joinAnswer}
 use Rattle.ground.specs.Refusals.{first, among, OneOf}
 use Rattle.promises.specs.Calls as call
@@ -57,6 +61,9 @@ use Rattle.promises.specs.Demand1.{Refused, Untouched, Zeros, NextPlaces
 use Rattle.promises.proofs.Laws.Picked.{picked}
 use Rattle.promises.proofs.Laws.Readings.{each-reading}
 use Rattle.promises.proofs.Laws.Numbered.{numbered}
+use Rattle.promises.proofs.Laws.OneOf.{apart}
+use Rattle.promises.proofs.Laws.WalkNumbers.{walking, checking, check-number}
+use Rattle.promises.proofs.Laws.Copies.{each-extract, each-join}
 
 -- ---- what was lent
 
@@ -212,6 +219,33 @@ check-walks src booking =
     picked (λ (c : Check). (c .count ≡ w .count) × (c .place ≡ w .place)) (eqb (w .reply) 0) _ _
     (picked (λ (c : Check). (c .count ≡ w .count) × (c .place ≡ w .place)) (eqb (w .count) booking) _ _ (refl, refl) (refl, refl)) (refl, refl)
 
+-- the check of blocks: 17 alone where the count of channels is wrong
+blocks-zeros : (src : List ℕ) (channels booking : ℕ) → let a = checkAnswer src channels booking in a .reply ≡ wrongChannels
+    → a ≡ record { reply = a .reply; count = 0; place = 0 }
+unfolding checkAnswer among
+blocks-zeros src channels booking e =
+    by-bool (isCount channels)
+    (λ t.
+    let x = checkBlocks channels src booking .reply in
+    let q : x ≡ wrongChannels = rw t at e in
+    let h = check-number x (check-replies (block-unit channels (counted channels t .0)) src booking) in
+    absurd (apart checking (17 ∷ []) tt x h (rw q tt)))
+    (λ t. rw t refl)
+
+abbrev CopyZeros : Copied → Type 0
+CopyZeros a = (OneOf (10 ∷ 17 ∷ []) (a .reply) → a ≡ refusedCopy (a .reply)) × (Refused (a .reply) → a .length ≡ 0)
+
+own-zeros : (w : Check) (which : ℕ) → OneOf walking (w .reply) → CopyZeros (stoppedCopy w which)
+unfolding among
+own-zeros w which h = (
+  λ k. absurd (apart walking (10 ∷ 17 ∷ []) tt (w .reply) h k),
+  λ n. refl,
+)
+
+done-zeros : (count place bytes : ℕ) → CopyZeros (madeCopy done 0 count place bytes)
+unfolding among
+done-zeros count place bytes = (λ k. absurd k, λ n. absurd (n refl))
+
 pub zeros : Zeros
 zeros =
     record {
@@ -239,6 +273,11 @@ zeros =
       write-block =
           λ records channels codes tails out.
           done-first (λ (w : Writing). w .reply) written (eqb (blockWritten.blockReply records channels codes tails (length out)) 0) _ _ refl refl;
+      check-blocks = blocks-zeros;
+      extract =
+          λ src channels channel out.
+          each-extract CopyZeros (λ k. refl, λ n. refl) (λ k. refl, λ n. refl) own-zeros done-zeros src channels channel (length out);
+      join = λ src lengths out. each-join CopyZeros (λ k. refl, λ n. refl) (λ k. refl, λ n. refl) own-zeros done-zeros src lengths (length out);
       check =
           λ src booking other.
           let b = check-walks src booking in
@@ -258,7 +297,7 @@ only-0-and-14 (suc x) next e h =
 pub places : NextPlaces
 places =
     record {
-      read-prefix = λ src. only-0-and-14 _ _ (λ n. ap (λ (a : PrefixAnswer). a .next) (prefix-zeros (prefixOf src) n));
+      read-prefix = λ src. only-0-and-14 _ _ (λ n. ap (λ (a : PrefixReading). a .next) (prefix-zeros (prefixOf src) n));
       read = λ src codes tail. only-0-and-14 _ _ (λ n. ap (λ (a : Reading). a .next) (read-zeros src (length codes) (length tail) n));
     }
 

@@ -42,7 +42,7 @@ use Rattle.writer.proofs.Laws.PlainCodes as writing
 use borrow.Author.Tests.{eq-eqb, eqb-true}
 use lib.Dec.{eqb}
 use mathlib.Core.Bool.{cond}
-use Rattle.ground.specs.Cases.{by-bool}
+use Rattle.ground.proofs.Laws.Cases.{by-bool}
 use Rattle.writer.specs.Writes.{writingOf}
 use Rattle.writer.specs.declared.Writing.{Writing}
 use Rattle.frame.specs.declared.Reading.{Reading}

@@ -3,14 +3,12 @@
 use mathlib.Core.Path.{_≡_, refl, sym, subst}
 use mathlib.Core.Bool.{Bool, true, false, _&&_}
 use mathlib.Core.List.{List, [], _∷_, _++_}
-use mathlib.Core.Logic.{inl, inr}
 use mathlib.Core.Option.{Option, some, none}
-use Prim.Native.Nat.{ℕ, zero, suc, _+_, _-_, _^_, _≤_}
-use native.Mathlib.Omega.{arith}
+use Prim.Native.Nat.{ℕ, suc, _+_, _-_, _^_}
 use lib.Dec.{eqb, ltb, leb}
 use lib.IntN.{ℤ}
 use lib.ListN.{length}
-use Rattle.ground.specs.Cases.{by-bool}
+use Rattle.ground.proofs.Laws.Cases.{by-bool}
 use Rattle.ground.specs.Indices.{inRange}
 use Rattle.ground.specs.Refusals.{among, OneOf}
 use Rattle.ground.proofs.Laws.Refusals.{first-number}
@@ -50,27 +48,28 @@ use Rattle.choice.specs.Choice.{choiceCauses, choiceReply, choiceOf as flagC}
 use Rattle.writer.specs.declared.Writing.{Writing as Written}
 use Rattle.listing.specs.Listing.{listedIn}
 use Rattle.listing.specs.declared.Listing.{Listing}
-use Rattle.recording.specs.Walk.{walk, mostFrames, checkOf}
-use Rattle.recording.specs.Checked.{Number}
+use Rattle.recording.specs.Walk.{checkOf}
 use Rattle.recording.proofs.Laws.Checked.{check-replies}
-use Rattle.recording.specs.Frames.{Frames}
-use Rattle.recording.proofs.Laws.Frames.{frame-lawful}
-use Rattle.recording.proofs.Laws.Units.{Told, Stop, ended, passed, met, walk-told}
-use Rattle.recording.specs.Blocks.{isCount, blockStep, walkBlocks, checkBlocks}
-use Rattle.recording.proofs.Laws.Blocks.{block-lawful, counted}
+use Rattle.recording.proofs.Laws.Frames.{frame-unit}
+use Rattle.recording.specs.Blocks.{isCount, checkBlocks}
+use Rattle.recording.proofs.Laws.Blocks.{block-unit, counted}
 use Rattle.frames.specs.Rooms.{roomCauses as blockRooms}
 use Rattle.block_reader.specs.Reading as blockRead
 use Rattle.block_writer.specs.Writing as blockWritten
 use Rattle.block_writer.specs.declared.Records.{Records}
 use Rattle.block_writer.proofs.Laws.ReplyNumbers.{read-numbers, write-numbers}
-use Rattle.channels.specs.Copies.{checkAnswer, extracted, isAmong, extractAnswer}
-use Rattle.joining.specs.Joining.{startOf, recordingAt, ownCheck, refusedIn, equalCounts, checkAll, joinedOf, joinAnswer}
+use Rattle.channels.specs.Copies.{checkAnswer, extractAnswer}
+use Rattle.joining.specs.Joining.{joinAnswer}
 use Rattle.channels.specs.declared.Copied.{Copied}
-use Rattle.channels.proofs.Laws.Extracting.{among-told}
 use Rattle.block_reader.specs.declared.Block.{Block}
 use Rattle.promises.proofs.Laws.Readings.{each-reading}
 use Rattle.promises.proofs.Laws.Picked.{picked}
 use Rattle.promises.specs.Demand1.{Numbered}
+use Rattle.channels.specs.Copies.{stoppedCopy}
+use Rattle.recording.specs.declared.answer.Check.{Check}
+use Rattle.promises.proofs.Laws.OneOf.{each-of}
+use Rattle.promises.proofs.Laws.WalkNumbers.{walking, checking, check-number}
+use Rattle.promises.proofs.Laws.Copies.{each-extract, each-join}
 
 -- ---- reading a frame: 0, 1, 2, 3, 4, 5, 6, 7, 10, 14
 
@@ -125,44 +124,8 @@ layout-number r codes =
 
 -- ---- a recording: 0, 2, 3, 4, 5, 6, 7, 11, 15
 
-abbrev checking : List ℕ
-checking = 0 ∷ 2 ∷ 3 ∷ 4 ∷ 5 ∷ 6 ∷ 7 ∷ 11 ∷ 15 ∷ []
-
--- a list that has 0, 2 to 7, 11 and 15 has every number of a check
-two-to-seven : (xs : List ℕ) → OneOf xs 2 → OneOf xs 3 → OneOf xs 4 → OneOf xs 5 → OneOf xs 6 → OneOf xs 7 → (x : ℕ) → 2 ≤ x → x ≤ 7 → OneOf xs x
-two-to-seven xs a b c d e f zero l h = absurd (omega arith)
-two-to-seven xs a b c d e f (suc zero) l h = absurd (omega arith)
-two-to-seven xs a b c d e f (suc (suc zero)) l h = a
-two-to-seven xs a b c d e f (suc (suc (suc zero))) l h = b
-two-to-seven xs a b c d e f (suc (suc (suc (suc zero)))) l h = c
-two-to-seven xs a b c d e f (suc (suc (suc (suc (suc zero))))) l h = d
-two-to-seven xs a b c d e f (suc (suc (suc (suc (suc (suc zero)))))) l h = e
-two-to-seven xs a b c d e f (suc (suc (suc (suc (suc (suc (suc zero))))))) l h = f
-two-to-seven xs a b c d e f (suc (suc (suc (suc (suc (suc (suc (suc x)))))))) l h = absurd (omega arith)
-
-number-one : (xs : List ℕ) → OneOf xs 0 → OneOf xs 2 → OneOf xs 3 → OneOf xs 4 → OneOf xs 5 → OneOf xs 6 → OneOf xs 7 → OneOf xs 11 → OneOf xs 15 → (x : ℕ)
-    → Number x → OneOf xs x
-number-one xs z a b c d e f u m x (inl q) = subst (OneOf xs) (sym q) z
-number-one xs z a b c d e f u m x (inr (inl q)) = two-to-seven xs a b c d e f x (q .0) (q .1)
-number-one xs z a b c d e f u m x (inr (inr (inl q))) = subst (OneOf xs) (sym q) u
-number-one xs z a b c d e f u m x (inr (inr (inr q))) = subst (OneOf xs) (sym q) m
-
--- the walk of a check before its booking: the same numbers but 11
-walk-number : (xs : List ℕ) → OneOf xs 0 → OneOf xs 2 → OneOf xs 3 → OneOf xs 4 → OneOf xs 5 → OneOf xs 6 → OneOf xs 7 → OneOf xs 15
-    → (channels : ℕ) → 1 ≤ channels → (src : List ℕ) → OneOf xs (walkBlocks channels src .reply)
-walk-number xs z a b c d e f m channels h src = go (t .stop)
-  where
-    t : Told (blockStep channels) (Frames channels) mostFrames src (walkBlocks channels src)
-    t = walk-told (block-lawful channels h) mostFrames src
-
-    go : Stop (blockStep channels) mostFrames (t .rest) (walkBlocks channels src) → OneOf xs (walkBlocks channels src .reply)
-    go (ended r q) = subst (OneOf xs) (sym r) z
-    go (passed r q l) = subst (OneOf xs) (sym r) m
-    go (met l k r) = let y = block-lawful channels h .number (t .rest) (walkBlocks channels src .reply) l r in two-to-seven xs a b c d e f _ (y .0) (y .1)
-
-pub check-number : (src : List ℕ) (booking : ℕ) → OneOf checking (checkOf src booking .reply)
-unfolding among
-check-number src booking = number-one checking tt tt tt tt tt tt tt tt tt (checkOf src booking .reply) (check-replies frame-lawful src booking)
+pub check-file-number : (src : List ℕ) (booking : ℕ) → OneOf checking (checkOf src booking .reply)
+check-file-number src booking = check-number (checkOf src booking .reply) (check-replies frame-unit src booking)
 
 -- ---- blocks of several channels: reading 0–7, 10, 17; writing 0, 7, 8, 9, 10, 12, 13, 17; the check as of a recording, and 17
 
@@ -184,8 +147,8 @@ pub check-blocks-number : (src : List ℕ) (channels booking : ℕ) → OneOf bl
 unfolding among checkAnswer
 check-blocks-number src channels booking =
     by-bool (isCount channels)
-    (λ t. rw t (number-one blockChecking tt tt tt tt tt tt tt tt tt (checkBlocks channels src booking .reply)
-    (check-replies (block-lawful channels (counted channels t .0)) src booking)))
+    (λ t. rw t (each-of (among blockChecking) checking tt (checkBlocks channels src booking .reply)
+    (check-number (checkBlocks channels src booking .reply) (check-replies (block-unit channels (counted channels t .0)) src booking))))
     (λ t. rw t tt)
 
 -- ---- a channel taken out, recordings joined: 0, 2 to 7, 10, 15, 17
@@ -193,38 +156,20 @@ check-blocks-number src channels booking =
 abbrev copying : List ℕ
 copying = 0 ∷ 2 ∷ 3 ∷ 4 ∷ 5 ∷ 6 ∷ 7 ∷ 10 ∷ 15 ∷ 17 ∷ []
 
-pub extract-number : (src : List ℕ) (channels channel room : ℕ) → OneOf copying (extractAnswer src channels channel room .reply)
-unfolding among extractAnswer
-extract-number src channels channel room =
-    let w = walkBlocks channels src in
-    by-bool (isAmong channels channel)
-    (λ t.
-    rw t
-    (picked (λ (c : Copied). OneOf copying (c .reply)) (eqb (w .reply) 0) _ _
-    (picked (λ (c : Copied). OneOf copying (c .reply)) (ltb room (length (extracted channels channel (w .count) src))) _ _ tt tt)
-    (walk-number copying tt tt tt tt tt tt tt tt channels (among-told channels channel t .0) src)))
-    (λ t. rw t tt)
+abbrev Copies : Copied → Type 0
+Copies c = OneOf copying (c .reply)
 
-refused-number : (src lengths : List ℕ) (n : ℕ) → OneOf copying (refusedIn (ownCheck src lengths) n .reply)
-unfolding among refusedIn
-refused-number src lengths zero = tt
-refused-number src lengths (suc n) =
-    picked (λ (c : Copied). OneOf copying (c .reply)) (eqb (refusedIn (ownCheck src lengths) n .reply) 0) _ _
-    (picked (λ (c : Copied). OneOf copying (c .reply)) (eqb (ownCheck src lengths n .reply) 0) _ _ tt
-    (walk-number copying tt tt tt tt tt tt tt tt 1 (omega arith) (recordingAt src lengths n)))
-    (refused-number src lengths n)
+own-number : (w : Check) (which : ℕ) → OneOf walking (w .reply) → Copies (stoppedCopy w which)
+unfolding among
+own-number w which = each-of (among copying) walking tt (w .reply)
+
+pub extract-number : (src : List ℕ) (channels channel room : ℕ) → OneOf copying (extractAnswer src channels channel room .reply)
+unfolding among
+extract-number = each-extract Copies tt tt own-number (λ count place bytes. tt)
 
 pub join-number : (src lengths : List ℕ) (room : ℕ) → OneOf copying (joinAnswer src lengths room .reply)
-unfolding among joinAnswer checkAll
-join-number src lengths room =
-    let w = ownCheck src lengths in
-    let n = length lengths in
-    picked (λ (c : Copied). OneOf copying (c .reply)) (isCount n) _ _
-    (picked (λ (c : Copied). OneOf copying (c .reply)) (ltb (length src) (startOf lengths n)) _ _ tt
-    (picked (λ (c : Copied). OneOf copying (c .reply)) (eqb (checkAll w n .reply) 0) _ _
-    (picked (λ (c : Copied). OneOf copying (c .reply)) (ltb room (length (joinedOf src lengths))) _ _ tt tt)
-    (picked (λ (c : Copied). OneOf copying (c .reply)) (eqb (refusedIn w n .reply) 0) _ _
-    (picked (λ (c : Copied). OneOf copying (c .reply)) (equalCounts w (w 0 .count) n) _ _ tt tt) (refused-number src lengths n)))) tt
+unfolding among
+join-number = each-join Copies tt tt own-number (λ count place bytes. tt)
 
 -- ---- a listing: 0, 10
 
@@ -336,7 +281,9 @@ numbered =
       read-prefix = λ src. prefix-number (prefixOf src);
       write-prefix = λ mode. byte-number (byteOf mode);
       read = λ src codes tail. read-number src (length codes) (length tail);
-      write = λ r codes tail out. picked (λ (w : Written). OneOf writing (w .reply)) (eqb (writeReply r codes tail (length out)) 0) _ _ tt (write-number r codes tail (length out));
+      write =
+          λ r codes tail out.
+          picked (λ (w : Written). OneOf writing (w .reply)) (eqb (writeReply r codes tail (length out)) 0) _ _ tt (write-number r codes tail (length out));
       write-empty = λ out. empty-number (length out);
       layout = layout-number;
       choose-flag-c = flag-c-number;
@@ -348,13 +295,19 @@ numbered =
       lattice-index = index-number;
       codebook-point = row-point-number;
       codebook-index = row-index-number;
-      check = check-number;
+      check = check-file-number;
       list = λ src out. list-number src (length out);
       check-blocks = check-blocks-number;
       extract = λ src channels channel out. extract-number src channels channel (length out);
       join = λ src lengths out. join-number src lengths (length out);
-      read-block = λ src channels codes tails. picked (λ (b : Block). OneOf (0 ∷ 1 ∷ 2 ∷ 3 ∷ 4 ∷ 5 ∷ 6 ∷ 7 ∷ 10 ∷ 17 ∷ []) (b .reply)) (eqb (blockRead.blockReply src channels (length codes) (length tails)) 0) _ _ tt (read-block-number src channels (length codes) (length tails));
-      write-block = λ r channels codes tails out. picked (λ (w : Written). OneOf (0 ∷ 7 ∷ 8 ∷ 9 ∷ 10 ∷ 12 ∷ 13 ∷ 17 ∷ []) (w .reply)) (eqb (blockWritten.blockReply r channels codes tails (length out)) 0) _ _ tt (write-block-number r channels codes tails (length out));
+      read-block =
+          λ src channels codes tails.
+          picked (λ (b : Block). OneOf (0 ∷ 1 ∷ 2 ∷ 3 ∷ 4 ∷ 5 ∷ 6 ∷ 7 ∷ 10 ∷ 17 ∷ []) (b .reply))
+          (eqb (blockRead.blockReply src channels (length codes) (length tails)) 0) _ _ tt (read-block-number src channels (length codes) (length tails));
+      write-block =
+          λ r channels codes tails out.
+          picked (λ (w : Written). OneOf (0 ∷ 7 ∷ 8 ∷ 9 ∷ 10 ∷ 12 ∷ 13 ∷ 17 ∷ []) (w .reply))
+          (eqb (blockWritten.blockReply r channels codes tails (length out)) 0) _ _ tt (write-block-number r channels codes tails (length out));
       word = word-number;
       run = word-passed;
     }

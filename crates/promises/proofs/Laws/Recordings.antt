@@ -8,7 +8,7 @@ use lib.ListN.{length, take}
 use Rattle.ground.specs.Replies.{cut, tooMany}
 use Rattle.recording.specs.Walk.{mostFrames, checkOf}
 use Rattle.recording.specs.Frames.{Stored, Frames, bare, full}
-use Rattle.recording.proofs.Laws.Frames.{frame-lawful}
+use Rattle.recording.proofs.Laws.Frames.{frame-unit}
 use Rattle.recording.proofs.Laws.Checked as checked
 use Rattle.recording.proofs.Laws.CutReport as cutting
 use Rattle.promises.specs.Recordings.{Recordings}
@@ -24,7 +24,7 @@ pub recordings : Recordings
 recordings =
     record {
       cut-report = cut-report;
-      complete = checked.check-whole frame-lawful;
-      not-as-booked = checked.check-unbooked frame-lawful;
-      no-invented-count = checked.check-told frame-lawful;
+      complete = checked.check-whole frame-unit;
+      not-as-booked = checked.check-unbooked frame-unit;
+      no-invented-count = checked.check-told frame-unit;
     }

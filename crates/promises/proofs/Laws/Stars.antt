@@ -13,7 +13,7 @@ use Rattle.words.specs.Tables.{coding, words, table16}
 use Rattle.prefix.specs.Sizes.{tableA2, lengthBytes, modeBytes, table22}
 use Rattle.prefix.specs.Prefix.{prefixOf, prefixByte, readingOf as prefixReading}
 use Rattle.prefix.proofs.Examples as prefix
-use Rattle.order.specs.Order.{sent}
+use Rattle.order.specs.SentOrder.{sent}
 use Rattle.norms.specs.Steps.{numbers}
 use Rattle.norms.specs.Part.{normKinds, normBits}
 use Rattle.weights.specs.Weights.{weighed}
@@ -22,7 +22,7 @@ use Rattle.allotment.specs.Allotment.{sharesOf}
 use Rattle.allotment.proofs.Examples as allotment
 use Rattle.points.specs.Answers.{pointOf}
 use Rattle.points.proofs.Examples as lattice
-use Rattle.kinds.specs.Budget.{spare, wideIn}
+use Rattle.kinds.specs.Budget.{noiseBits, allCompete}
 use Rattle.frame.specs.Layout.{budgetOf}
 use Rattle.frame.specs.Answers.{readAnswer, readingOf, stoppedAt}
 use Rattle.writer.specs.Writes.{bytesFor}
@@ -43,15 +43,15 @@ unfolding readAnswer prefixOf prefixByte tableA2 lengthBytes
 prefix-20 = refl
 
 psi-414 : budgetOf 640 (flags false) twenties ≡ 414
-unfolding budgetOf spare word wordOf writeAll coding sent numbers normKinds normBits
+unfolding budgetOf noiseBits word wordOf writeAll coding sent numbers normKinds normBits
 psi-414 = refl
 
 psi-500 : budgetOf 640 (flags true) twenties ≡ 500
-unfolding budgetOf spare word wordOf writeAll coding words table16 sent numbers normKinds normBits
+unfolding budgetOf noiseBits word wordOf writeAll coding words table16 sent numbers normKinds normBits
 psi-500 = refl
 
-wide-80 : wideIn 640 true ≡ true
-unfolding wideIn
+wide-80 : allCompete 640 true ≡ true
+unfolding allCompete
 wide-80 = refl
 
 head-of : (vs ts : List ℕ) (noise bits : ℕ) → take 5 (bytesOf 80 (bodyBits (small noise bits) vs ts)) ≡ 0x6A ∷ 0x6D ∷ 0xB6 ∷ 0xDB ∷ 0x6D ∷ []

@@ -11,17 +11,17 @@ use lib.Dec.{eqb, ltb}
 use lib.ListN.{length, take, drop, length-append, length-drop}
 use lib.Seq.{drop-at, take-add}
 use borrow.Author.Tests.{eqb-false, ltb-true, ne-eqb, lt-ltb}
-use Rattle.ground.specs.Cases.{by-bool}
+use Rattle.ground.proofs.Laws.Cases.{by-bool}
 use Rattle.ground.specs.Replies.{noByte, cut}
 use Rattle.frame.specs.Answers.{Outcome, refused, empty, sound}
 use Rattle.recording.specs.Walk.{Step, stops, passes, stepOf, frameStep, storedAt, nextStep, booked, mostFrames, checkOver, checkOf}
 use Rattle.recording.proofs.Laws.Walk.{next-same, walk-same}
 use Rattle.recording.specs.Units.{none, more}
-use Rattle.recording.proofs.Laws.Units.{Lawful}
+use Rattle.recording.proofs.Laws.Units.{LawfulUnit}
 use Rattle.recording.specs.Frames.{Stored, Frames}
-use Rattle.recording.proofs.Laws.Frames.{frame-lawful}
+use Rattle.recording.proofs.Laws.Frames.{frame-unit}
 use Rattle.recording.proofs.Laws.Reads.{refused-low}
-use Rattle.recording.specs.Blocks.{further, within, followed, isCount, blockStep, passingOf, checkBlocks}
+use Rattle.recording.specs.Blocks.{further, inBlock, followed, isCount, blockStep, passingOf, checkBlocks}
 use Rattle.recording.specs.declared.answer.Passing.{Passing}
 
 module _ (n : ℕ) (s : List ℕ) where
@@ -30,14 +30,14 @@ module _ (n : ℕ) (s : List ℕ) where
   unfolding blockStep
   block-first o e = ap (λ (x : Step). followed x (λ k. blockStep n (drop k s))) e
 
-  pub block-passed : (k : ℕ) → frameStep s ≡ passes k → (o : Step) → blockStep n (drop k s) ≡ o → blockStep (suc n) s ≡ further k (within o)
-  block-passed k e o q = block-first (passes k) e ∙ ap (λ (x : Step). further k (within x)) q
+  pub block-passed : (k : ℕ) → frameStep s ≡ passes k → (o : Step) → blockStep n (drop k s) ≡ o → blockStep (suc n) s ≡ further k (inBlock o)
+  block-passed k e o q = block-first (passes k) e ∙ ap (λ (x : Step). further k (inBlock x)) q
 
 pub block-front : {n : ℕ} {f : List ℕ} (rest : List ℕ) → Frames n f → blockStep n (f ++ rest) ≡ passes (length f)
 unfolding blockStep
 block-front rest none = refl
 block-front rest (more {k} {f} {s} a fs) =
-    let e : frameStep (f ++ (s ++ rest)) ≡ passes (length f) = frame-lawful .front f (s ++ rest) a in
+    let e : frameStep (f ++ (s ++ rest)) ≡ passes (length f) = frame-unit .front f (s ++ rest) a in
     let q : blockStep k (drop (length f) (f ++ (s ++ rest))) ≡ passes (length s) = ap (blockStep k) (drop-at f (s ++ rest) (length f) refl)
     ∙ block-front rest fs in
     let m : 1 + k ≡ suc k = omega arith in
@@ -65,7 +65,7 @@ block-told (suc n) s k e = first (frameStep s) refl (λ t i. block-told n t i)
     then j q (passes i) r h =
         let z = sym (block-passed n s j q (passes i) r) ∙ e in
         let y : j + i ≡ k = cc in
-        subst (λ (m : ℕ). Frames (suc n) (take m s) × (m ≤ length s)) y (one-more n s j i (frame-lawful .told s j q) (h (drop j s) i r))
+        subst (λ (m : ℕ). Frames (suc n) (take m s) × (m ≤ length s)) y (one-more n s j i (frame-unit .told s j q) (h (drop j s) i r))
 
     first : (o : Step) → frameStep s ≡ o
         → ((t : List ℕ) (i : ℕ) → blockStep n t ≡ passes i → Frames n (take i t) × (i ≤ length t)) → Frames (suc n) (take k s) × (k ≤ length s)
@@ -102,7 +102,7 @@ block-low (suc n) s x e = first (frameStep s) refl (λ t y q. block-low n t y q 
         let z = sym (block-first n s (stops y) q) ∙ e in
         let w : y ≡ x = cc in
         let l = frame-low s y (storedAt s) refl q in
-        ((omega (arith, l .0, w), omega (arith, l .1, w)), λ b. omega (arith, w, frame-lawful .number s y b q .0))
+        ((omega (arith, l .0, w), omega (arith, l .1, w)), λ b. omega (arith, w, frame-unit .number s y b q .0))
     first (passes j) q h = then j q (blockStep n (drop j s)) refl h
 
 pub block-stops : (n : ℕ) (s : List ℕ) (x : ℕ) → blockStep n s ≡ stops x → (1 ≤ x) × (x ≤ 7)
@@ -110,10 +110,10 @@ block-stops n s x e = block-low n s x e .0
 
 frames-some : {n : ℕ} {f : List ℕ} → 1 ≤ n → Frames n f → 0 < length f
 frames-some h none = absurd (omega arith)
-frames-some h (more {k} {f} {s} a fs) = omega (arith, frame-lawful .some f a, length-append f s)
+frames-some h (more {k} {f} {s} a fs) = omega (arith, frame-unit .some f a, length-append f s)
 
-pub block-lawful : (n : ℕ) → 1 ≤ n → Lawful (blockStep n) (Frames n)
-block-lawful n h =
+pub block-unit : (n : ℕ) → 1 ≤ n → LawfulUnit (blockStep n) (Frames n)
+block-unit n h =
     record {
       some = λ f w. frames-some h w;
       front = λ f rest w. block-front rest w;

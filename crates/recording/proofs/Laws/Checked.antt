@@ -1,4 +1,4 @@
--- Laws of specs/Checked.
+-- What the check answers, of any lawful unit: 0 and 11 exactly where they should, the count and the place always true.
 -- Assumes nothing.
 use mathlib.Core.Path.{_≡_, refl, sym, ap, _∙_, subst}
 use mathlib.Core.List.{List, [], _++_, append-nil}
@@ -8,12 +8,12 @@ use native.Mathlib.Omega.{arith}
 use lib.Dec.{eqb}
 use lib.ListN.{length}
 use borrow.Author.Tests.{eqb-true, eqb-false}
-use Rattle.ground.specs.Cases.{by-bool}
+use Rattle.ground.proofs.Laws.Cases.{by-bool}
 use Rattle.ground.specs.Replies.{done, noByte, shortRoom, notAsBooked, noData, tooMany}
 use Rattle.recording.specs.Walk.{Step, stops, madeCheck, ahead, walkOver, booked, mostFrames, checkOver}
 use Rattle.recording.proofs.Laws.Walk.{ahead-stopped, booked-done, booked-missed, booked-other, walk-end, walk-full, walk-stops}
 use Rattle.recording.specs.Units.{Units}
-use Rattle.recording.proofs.Laws.Units.{Lawful, Stop, ended, passed, met, Told, walk-told, walk-units}
+use Rattle.recording.proofs.Laws.Units.{LawfulUnit, Stop, ended, passed, met, WalkSays, walk-says, walk-units}
 use Rattle.recording.specs.declared.answer.Check.{Check}
 use Rattle.recording.specs.Checked.{Reason, agreed, unbooked, passed-all, stopped-at, Checked, Number}
 
@@ -23,8 +23,8 @@ never x (inr (inl e)) = (λ z. omega arith, λ z. omega arith, λ z. omega arith
 never x (inr (inr (inl e))) = (λ z. omega arith, λ z. omega arith, λ z. omega arith)
 never x (inr (inr (inr e))) = (λ z. omega arith, λ z. omega arith, λ z. omega arith)
 
-module _ {unit : List ℕ → Step} {Whole : List ℕ → Type 0} (L : Lawful unit Whole) where
-  module _ (src : List ℕ) (b : ℕ) (w : Check) (t : Told unit Whole mostFrames src w) where
+module _ {unit : List ℕ → Step} {Whole : List ℕ → Type 0} (L : LawfulUnit unit Whole) where
+  module _ (src : List ℕ) (b : ℕ) (w : Check) (t : WalkSays unit Whole mostFrames src w) where
     same-front : (c : Check) → w .count ≡ c .count → w .place ≡ c .place → Reason unit b (t .rest) c → Checked unit Whole src b c
     same-front c k p r =
         record {
@@ -55,7 +55,7 @@ module _ {unit : List ℕ → Step} {Whole : List ℕ → Type 0} (L : Lawful un
   -- whatever the check answers: its count of sound units stands in front of its place, and its number is given for its reason
   pub check-told : (src : List ℕ) (b : ℕ) → Checked unit Whole src b (checkOver unit src b)
   unfolding checkOver
-  check-told src b = let t = walk-told L mostFrames src in checked-by src b (walkOver unit mostFrames src) t (t .stop)
+  check-told src b = let t = walk-says L mostFrames src in checked-by src b (walkOver unit mostFrames src) t (t .stop)
 
   -- ---- what the check answers of units
 

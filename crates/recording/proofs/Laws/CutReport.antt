@@ -22,7 +22,7 @@ use Rattle.frame.proofs.Laws.Reads.{data-cut}
 use Rattle.recording.specs.Walk.{storedAt, stepOf, mostFrames, checkOf}
 use Rattle.recording.proofs.Laws.Walk.{stored-started}
 use Rattle.recording.specs.Frames.{Frames}
-use Rattle.recording.proofs.Laws.Frames.{first-cut, frame-lawful}
+use Rattle.recording.proofs.Laws.Frames.{first-cut, frame-unit}
 use Rattle.recording.proofs.Laws.Checked.{refused-behind, byte-behind}
 
 -- the prefix byte alone decides: bytes whose prefix says data and more bytes than follow, whatever they are
@@ -30,7 +30,7 @@ pub cut-byte : {k : ℕ} {s : List ℕ} → Frames k s → k < mostFrames
     → (part : List ℕ) (l : Length) → prefixOf part ≡ Data l → 0 < length part → length part ≤ lengthBytes (l .0)
     → (b : ℕ) → checkOf (s ++ part) b ≡ record { reply = cut; count = k; place = length s }
 cut-byte fs h part l q p n b =
-    refused-behind frame-lawful fs b part cut h p
+    refused-behind frame-unit fs b part cut h p
     (ap stepOf (stored-started part ∙ ap (λ (z : Prefix). started z part) q ∙ data-cut part l (lengthBytes (l .0)) refl n))
 
 pub cut-report : {k : ℕ} {s : List ℕ} → Frames k s
@@ -41,6 +41,6 @@ pub cut-report : {k : ℕ} {s : List ℕ} → Frames k s
     × (k ≡ mostFrames → checkOf (s ++ take j f) b ≡ record { reply = tooMany; count = mostFrames; place = length s })
 cut-report fs f m x e l j p h b =
     let n : length (take j f) ≡ j = length-take-le j f (omega arith) in (
-      λ t. refused-behind frame-lawful fs b (take j f) cut t (omega arith) (ap stepOf (first-cut f m x e j p (omega arith))),
-      λ t. byte-behind frame-lawful fs b (take j f) t (omega arith),
+      λ t. refused-behind frame-unit fs b (take j f) cut t (omega arith) (ap stepOf (first-cut f m x e j p (omega arith))),
+      λ t. byte-behind frame-unit fs b (take j f) t (omega arith),
     )

@@ -1,4 +1,4 @@
--- Laws of specs/Frames.
+-- A stored frame is a lawful unit: its own bytes decide how it reads, whatever follows, and fewer of them are cut.
 -- Assumes nothing.
 use mathlib.Core.Path.{_≡_, refl, sym, ap, _∙_, subst}
 use mathlib.Core.List.{List, [], _∷_, _++_}
@@ -8,7 +8,7 @@ use lib.Dec.{ltb}
 use lib.ListN.{length, getD, take, drop, length-append, length-drop, take-append-drop}
 use lib.Seq.{take-append-le, drop-append-le, length-take-le}
 use borrow.Author.Tests.{ltb-true, ltb-false}
-use Rattle.ground.specs.Cases.{by-bool}
+use Rattle.ground.proofs.Laws.Cases.{by-bool}
 use Rattle.ground.specs.Replies.{cut}
 use Rattle.bits.specs.Bits.{bitsOf}
 use Rattle.bits.specs.Codings.{Answer, got, no}
@@ -24,7 +24,7 @@ use Rattle.frame.specs.Answers.{Outcome, refused, empty, sound, outcome, readBo
 use Rattle.frame.proofs.Laws.Reads.{data-cut, data-whole}
 use Rattle.recording.specs.Walk.{storedAt, stops, passes, stepOf, frameStep}
 use Rattle.recording.proofs.Laws.Walk.{stored-started, Fits, stored-fits}
-use Rattle.recording.proofs.Laws.Units.{Lawful}
+use Rattle.recording.proofs.Laws.Units.{LawfulUnit}
 use Rattle.recording.specs.Frames.{Stored, bare, full}
 
 -- ---- the prefix byte decides how many bytes are read
@@ -191,8 +191,8 @@ frame-number s x (refused y) f q = let n : y ≡ x = cc in subst (λ (z : ℕ). 
 frame-number s x empty f q = absurd (let z : _≡_ {A = ℕ} 0 1 = cc in omega arith)
 frame-number s x (sound m y) f q = absurd (let z : _≡_ {A = ℕ} 0 1 = cc in omega arith)
 
-pub frame-lawful : Lawful frameStep Stored
-frame-lawful =
+pub frame-unit : LawfulUnit frameStep Stored
+frame-unit =
     record {
       some = stored-some;
       front = stored-passes;

@@ -1,4 +1,4 @@
--- Laws of specs/Units.
+-- What makes a unit lawful, and what a walk over lawful units says: the units in front of its place, and why it stops there.
 -- Assumes nothing.
 use mathlib.Core.Path.{_≡_, refl, sym, ap, ap₂, _∙_, subst}
 use mathlib.Core.List.{List, [], _∷_, _++_, append-assoc}
@@ -13,7 +13,7 @@ use Rattle.recording.specs.declared.answer.Check.{Check}
 use Rattle.recording.specs.Units.{Units, none, more}
 
 -- the unit passes with exactly the bytes of a sound one, whatever follows; where there is a byte it stops with 2 to 7 alone
-pub record Lawful (unit : List ℕ → Step) (Whole : List ℕ → Type 0) : Type 0 where
+pub record LawfulUnit (unit : List ℕ → Step) (Whole : List ℕ → Type 0) : Type 0 where
   pub some : (f : List ℕ) → Whole f → 0 < length f
   pub front : (f rest : List ℕ) → Whole f → unit (f ++ rest) ≡ passes (length f)
   pub told : (s : List ℕ) (k : ℕ) → unit s ≡ passes k → Whole (take k s) × (k ≤ length s)
@@ -27,7 +27,7 @@ pub data Stop (unit : List ℕ → Step) (n : ℕ) (rest : List ℕ) (w : Check)
   passed : w .reply ≡ tooMany → w .count ≡ n → 0 < length rest → Stop unit n rest w
   met : 0 < length rest → w .count < n → unit rest ≡ stops (w .reply) → Stop unit n rest w
 
-pub record Told (unit : List ℕ → Step) (Whole : List ℕ → Type 0) (n : ℕ) (src : List ℕ) (w : Check) : Type 0 where
+pub record WalkSays (unit : List ℕ → Step) (Whole : List ℕ → Type 0) (n : ℕ) (src : List ℕ) (w : Check) : Type 0 where
   pub front : List ℕ
   pub rest : List ℕ
   pub whole : src ≡ front ++ rest
@@ -36,7 +36,7 @@ pub record Told (unit : List ℕ → Step) (Whole : List ℕ → Type 0) (n : �
   pub few : w .count ≤ n
   pub stop : Stop unit n rest w
 
-module _ {unit : List ℕ → Step} {Whole : List ℕ → Type 0} (L : Lawful unit Whole) where
+module _ {unit : List ℕ → Step} {Whole : List ℕ → Type 0} (L : LawfulUnit unit Whole) where
   one-unit : (n : ℕ) (f rest : List ℕ) → Whole f → walkOver unit (suc n) (f ++ rest) ≡ ahead 1 (length f) (walkOver unit n rest)
   one-unit n f rest w =
       walk-passes unit n (f ++ rest) (omega (arith, length-append f rest, L .some f w)) (length f) (L .front f rest w)
@@ -54,7 +54,7 @@ module _ {unit : List ℕ → Step} {Whole : List ℕ → Type 0} (L : Lawful un
       ∙ ahead-ahead 1 (length f) k (length s) (walkOver unit (n - k) rest)
       ∙ ap₂ (λ (j i : ℕ). ahead (1 + k) j (walkOver unit i rest)) (sym (length-append f s)) (sym e)
 
-  at-start : (n : ℕ) (src : List ℕ) (x : ℕ) → Stop unit n src (stopped x) → Told unit Whole n src (stopped x)
+  at-start : (n : ℕ) (src : List ℕ) (x : ℕ) → Stop unit n src (stopped x) → WalkSays unit Whole n src (stopped x)
   at-start n src x s = record { front = []; rest = src; whole = refl; units = none; place = refl; few = omega arith; stop = s }
 
   later : (n : ℕ) (rest : List ℕ) (k : ℕ) (w : Check) → Stop unit n rest w → Stop unit (suc n) rest (ahead 1 k w)
@@ -62,8 +62,8 @@ module _ {unit : List ℕ → Step} {Whole : List ℕ → Type 0} (L : Lawful un
   later n rest k w (passed e q h) = passed e (omega arith) h
   later n rest k w (met h l e) = met h (omega arith) e
 
-  behind : (n : ℕ) (src : List ℕ) (k : ℕ) (w : Check) → Whole (take k src) → k ≤ length src → Told unit Whole n (drop k src) w
-      → Told unit Whole (suc n) src (ahead 1 k w)
+  behind : (n : ℕ) (src : List ℕ) (k : ℕ) (w : Check) → Whole (take k src) → k ≤ length src → WalkSays unit Whole n (drop k src) w
+      → WalkSays unit Whole (suc n) src (ahead 1 k w)
   behind n src k w a l t =
       record {
         front = take k src ++ t .front;
@@ -76,20 +76,21 @@ module _ {unit : List ℕ → Step} {Whole : List ℕ → Type 0} (L : Lawful un
       }
 
   told-at : (n : ℕ) (src : List ℕ) → 0 < length src → (o : Step) → unit src ≡ o
-      → ((s : List ℕ) → Told unit Whole n s (walkOver unit n s)) → Told unit Whole (suc n) src (walkOver unit (suc n) src)
+      → ((s : List ℕ) → WalkSays unit Whole n s (walkOver unit n s)) → WalkSays unit Whole (suc n) src (walkOver unit (suc n) src)
   told-at n src h (stops x) e t =
-      subst (Told unit Whole (suc n) src) (sym (walk-stops unit n src h x e)) (at-start (suc n) src x (met h (omega arith) e))
+      subst (WalkSays unit Whole (suc n) src) (sym (walk-stops unit n src h x e)) (at-start (suc n) src x (met h (omega arith) e))
   told-at n src h (passes k) e t =
       let b = L .told src k e in
-      subst (Told unit Whole (suc n) src) (sym (walk-passes unit n src h k e)) (behind n src k (walkOver unit n (drop k src)) (b .0) (b .1) (t (drop k src)))
+      subst (WalkSays unit Whole (suc n) src) (sym (walk-passes unit n src h k e))
+      (behind n src k (walkOver unit n (drop k src)) (b .0) (b .1) (t (drop k src)))
 
   -- whatever the walk answers, its count of sound units is in front of its place, and there it stopped for the reason that its number says
-  pub walk-told : (n : ℕ) (src : List ℕ) → Told unit Whole n src (walkOver unit n src)
-  walk-told zero [] = subst (Told unit Whole 0 []) (sym (walk-end unit 0 [] refl)) (at-start 0 [] done (ended refl refl))
-  walk-told (suc n) [] = subst (Told unit Whole (suc n) []) (sym (walk-end unit (suc n) [] refl)) (at-start (suc n) [] done (ended refl refl))
-  walk-told zero (b ∷ s) =
-      subst (Told unit Whole 0 (b ∷ s)) (sym (walk-full unit (b ∷ s) (omega arith))) (at-start 0 (b ∷ s) tooMany (passed refl refl (omega arith)))
-  walk-told (suc n) (b ∷ s) = told-at n (b ∷ s) (omega arith) (unit (b ∷ s)) refl (λ t. walk-told n t)
+  pub walk-says : (n : ℕ) (src : List ℕ) → WalkSays unit Whole n src (walkOver unit n src)
+  walk-says zero [] = subst (WalkSays unit Whole 0 []) (sym (walk-end unit 0 [] refl)) (at-start 0 [] done (ended refl refl))
+  walk-says (suc n) [] = subst (WalkSays unit Whole (suc n) []) (sym (walk-end unit (suc n) [] refl)) (at-start (suc n) [] done (ended refl refl))
+  walk-says zero (b ∷ s) =
+      subst (WalkSays unit Whole 0 (b ∷ s)) (sym (walk-full unit (b ∷ s) (omega arith))) (at-start 0 (b ∷ s) tooMany (passed refl refl (omega arith)))
+  walk-says (suc n) (b ∷ s) = told-at n (b ∷ s) (omega arith) (unit (b ∷ s)) refl (λ t. walk-says n t)
 
   -- the same bytes are never both j and k units
   pub one-count : {j k : ℕ} {s : List ℕ} → Units Whole j s → Units Whole k s → j ≡ k

@@ -1,4 +1,4 @@
--- Laws of specs/Walk.
+-- The walk step by step: its ends, its stops, one unit passed; the booking by its tests.
 -- Assumes nothing.
 use mathlib.Core.Path.{_≡_, refl, sym, ap, ap₂, _∙_, subst}
 use mathlib.Core.Bool.{Bool, true, false, cond}
@@ -9,7 +9,7 @@ use native.Mathlib.Omega.{arith}
 use lib.Dec.{eqb, ltb}
 use lib.ListN.{length, getD, drop}
 use borrow.Author.Tests.{eq-eqb, ne-eqb, ltb-true, ltb-false}
-use Rattle.ground.specs.Cases.{by-bool}
+use Rattle.ground.proofs.Laws.Cases.{by-bool}
 use Rattle.ground.specs.Replies.{done, notAsBooked, tooMany}
 use Rattle.bits.specs.Bits.{bitsOf}
 use Rattle.bits.specs.Codings.{Answer, got, no}

@@ -12,7 +12,7 @@ use Rattle.recording.specs.Walk.{Step, stops, passes, nextStep, madeChec
 use Rattle.recording.proofs.Laws.Walk.{ahead-none, ahead-ahead, ahead-stopped, booked-done, booked-missed, booked-other}
 use Rattle.recording.proofs.Laws.Walk.{next-end, next-full, next-unit, next-passes, walk-stop, walk-pass}
 use Rattle.recording.proofs.Laws.Reads.{lent}
-use Rattle.recording.proofs.Laws.Units.{Lawful}
+use Rattle.recording.proofs.Laws.Units.{LawfulUnit}
 use Rattle.recording.specs.Blocks.{madePassing, passingOf}
 use Rattle.recording.specs.declared.answer.Check.{Check}
 use Rattle.recording.specs.declared.answer.Passing.{Passing}
@@ -52,7 +52,7 @@ pub record Stepped (unit : List ℕ → Step) (src : List ℕ) (at count : ℕ) 
   pub walked : Walked unit src at count
   pub told : p ≡ passingOf (nextStep unit (mostFrames - count) (drop at src))
 
-module _ {unit : List ℕ → Step} {Whole : List ℕ → Type 0} (L : Lawful unit Whole) {src : List ℕ} {at count : ℕ} {p : Passing}
+module _ {unit : List ℕ → Step} {Whole : List ℕ → Type 0} (L : LawfulUnit unit Whole) {src : List ℕ} {at count : ℕ} {p : Passing}
     (S : Stepped unit src at count p) where
   -- no unit is of no bytes, so these tell a stop from a sound unit
   passed : (k : ℕ) → nextStep unit (mostFrames - count) (drop at src) ≡ passes k → (0 < k) × (at + k ≤ length src)

@@ -10,7 +10,7 @@ use Rattle.frame.specs.Answers.{readingOf}
 use Rattle.recording.specs.Walk.{storedAt}
 use Rattle.recording.specs.Blocks.{madePassing}
 use Rattle.recording.proofs.Laws.Reads.{told-record, reading-stops, reading-passes}
-use Rattle.recording.proofs.Laws.Begun.{Begun, begun-none, begun-stop, begun-next, begun-end}
+use Rattle.recording.proofs.Laws.BlockSoFar.{Begun, begun-none, begun-stop, begun-next, begun-end}
 use Rattle.recording.proofs.pass_block.Statement.{statement}
 use Rattle.recording.proofs.pass_block.Tie as tie
 

@@ -1,6 +1,6 @@
 -- `recording::reply_behind` meets its contract: the first frame keeps its number, and a later one that is missing is cut off. Assumes nothing.
 use native.Mathlib.Omega.{arith}
-use Rattle.recording.proofs.Laws.Begun.{behind-first, behind-missing, behind-other}
+use Rattle.recording.proofs.Laws.BlockSoFar.{behind-first, behind-missing, behind-other}
 use Rattle.recording.proofs.reply_behind.Statement.{statement}
 use Rattle.recording.proofs.reply_behind.Tie as tie
 

@@ -7,7 +7,7 @@ use mathlib.Core.Path.{_∙_}
 use native.Mathlib.Omega.{arith}
 use Rattle.recording.specs.Blocks.{blockStep}
 use Rattle.recording.proofs.Laws.Walked.{Walked, Stepped, walked-none, walked-end, walked-more}
-use Rattle.recording.proofs.Laws.Blocks.{block-lawful}
+use Rattle.recording.proofs.Laws.Blocks.{block-unit}
 use Rattle.recording.proofs.walk_blocks.Statement.{statement}
 use Rattle.recording.proofs.walk_blocks.Tie as tie
 
@@ -26,12 +26,12 @@ returns : tie.Need-returns Inv-loop μ-loop
 returns c =
     let m : tie.After-made-check Inv-loop μ-loop = search in
     let a : tie.Start Inv-loop μ-loop = search in
-    m .made-check .ensures ∙ walked-end (block-lawful (a .args .channels) (a .pre)) (stepped (search)) (omega arith)
+    m .made-check .ensures ∙ walked-end (block-unit (a .args .channels) (a .pre)) (stepped (search)) (omega arith)
 
 loop-again : tie.Need-loop-again Inv-loop μ-loop
 loop-again c =
     let a : tie.Start Inv-loop μ-loop = search in
-    walked-more (block-lawful (a .args .channels) (a .pre)) (stepped (search)) (λ e. omega arith)
+    walked-more (block-unit (a .args .channels) (a .pre)) (stepped (search)) (λ e. omega arith)
 
 pub walk-blocks-spec : {M : Type 1} → statement M
 walk-blocks-spec =

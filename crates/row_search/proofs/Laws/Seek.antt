@@ -11,8 +11,10 @@ use lib.Count.{ones}
 use lib.Dec.{ltb}
 use lib.ListN.{length, getD}
 use lib.IntN.{ℤ, pos}
-use Rattle.ground.specs.Cases.{by-bool}
-use Rattle.ground.specs.Fills.{from, filled, getD-table}
+use Rattle.ground.specs.Sums.{sumTo}
+use Rattle.ground.proofs.Laws.Cases.{by-bool}
+use Rattle.ground.specs.ListsByRule.{from}
+use Rattle.ground.proofs.Laws.ListsByRule.{filled, getD-table}
 use Rattle.ground.specs.Replies.{done}
 use Rattle.points.specs.Answers.{agree}
 use Rattle.points.proofs.Laws.Points.{all-yes, all-at, eqZ-eq, eqZ-refl}
@@ -87,7 +89,7 @@ unfolding agree
 eight-agree v = all-yes _ 8 (λ i l. rw (getD-table (λ (j : ℕ). getD v j (pos 0)) 8 (pos 0) i l) (eqZ-refl (getD v i (pos 0))))
 
 eight-code : (v : List ℤ) → code (eight v) ≡ code v
-unfolding code from
+unfolding code from sumTo
 eight-code v = refl
 
 pub hit : (rate n : ℕ) (v : List ℤ) → rate ≡ 1 → n < 256 → agree (row n) v 8 ≡ true → record { reply = done; index = n } ≡ rowIndex rate v

@@ -12,9 +12,9 @@ use lib.Signed.{mag}
 use mir.Facts.{toZ-ofZ}
 use mir.Syntax.{w16}
 use mir.Val.{SFits, toZ, ofZ}
-use Rattle.ground.specs.Whole.{Is}
-use Rattle.lattice.specs.Lattice.{sumTo}
-use Rattle.lattice.proofs.Laws.Lattice.{sum-more}
+use Rattle.ground.specs.Differences.{Is}
+use Rattle.ground.specs.Sums.{sumTo}
+use Rattle.ground.proofs.Laws.Sums.{sum-more}
 use Rattle.codebook.specs.Packed.{weight, code}
 
 above : (z : ℤ) {u h : ℕ} → Is z u h → h < u → 256 ≡ weight z
@@ -57,6 +57,10 @@ pub record Weighing (v : List ℤ) (c i : ℕ) : Type 0 where
   pub upto : i ≤ 8
   pub is : c ≡ sumTo (λ (j : ℕ). weight (getD v j (pos 0)) * 2 ^ j) i
   pub most : c + 256 ≤ 256 * 2 ^ i
+
+pub weighing-none : {v : List ℤ} → Weighing v 0 0
+unfolding sumTo
+weighing-none = record { upto = omega arith; is = refl; most = omega arith }
 
 pub weighing-more : {v : List ℤ} {c i w : ℕ} → Weighing v c i → i < 8 → mag (getD v i (pos 0)) < 32768
     → (w ≡ weight (toZ w16 (ofZ w16 (getD v i (pos 0))))) × (w ≤ 256) → Weighing v (c + w * 2 ^ i % 4294967296) (i + 1)

@@ -2,7 +2,7 @@
 use Prim.Native.Nat.{_-_}
 use native.Mathlib.Omega.{arith}
 use borrow.Author.Needs.{needs}
-use Rattle.row_search.proofs.Laws.Weights.{shifted, Weighing, weighing-more, weighing-done}
+use Rattle.row_search.proofs.Laws.Weights.{shifted, Weighing, weighing-none, weighing-more, weighing-done}
 use Rattle.row_search.proofs.code_of.Statement.{statement}
 use Rattle.row_search.proofs.code_of.Tie as tie
 
@@ -18,7 +18,7 @@ code-of-spec =
     (tie.spec
     Inv-loop
     μ-loop
-    (λ c. search needs)
+    (λ c. weighing-none)
     (λ c. search needs)
     (λ c. search needs)
     (λ c κs. search needs)

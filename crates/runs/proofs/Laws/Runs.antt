@@ -1,4 +1,4 @@
--- Laws of specs/Runs.
+-- A run of words read one by one: what is read so far, one word more, the first refusal, the end.
 -- Assumes nothing.
 use mathlib.Core.Path.{_≡_, refl, sym, ap, ap₂, _∙_}
 use mathlib.Core.Bool.{Bool}

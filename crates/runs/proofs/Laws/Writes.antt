@@ -9,11 +9,11 @@ use native.Mathlib.Omega.{arith}
 use lib.ListN.{length, drop, getD, length-append, drop-of-length-le}
 use lib.Seq.{drop-cons}
 use Rattle.bits.specs.Bits.{laid, Bytes}
-use Rattle.bits.proofs.Laws.Laid.{laid-append, laid-none, length-laid}
+use Rattle.bits.proofs.Laws.LaidBits.{laid-append, laid-none, length-laid}
 use Rattle.bits.specs.Codings.{wordOf}
 use Rattle.bits.specs.Codecs.{writeAll}
 use Rattle.words.specs.Tables.{coding}
-use Rattle.words.proofs.Laws.Spell.{word-few}
+use Rattle.words.proofs.Laws.WritingTable.{word-few}
 
 abbrev pub runBits : List ℕ → List ℕ → List Bool
 runBits kinds numbers = writeAll (map coding kinds) numbers

@@ -18,7 +18,7 @@ count-run-spec =
     (λ c. omega arith)
     (λ c. omega arith)
     (λ c κs. search needs)
-    (λ c. omega (arith, word-short _ _ _ (c .bits-in .ensures)))
+    (λ c. omega (arith, word-short _ _ _ (c .word-bits-by .ensures)))
     (λ c. omega arith)
     (λ c. omega arith)
     (λ c. search count-turn)

@@ -16,9 +16,9 @@ abbrev μ-loop : tie.MeasureT-loop
 -- a word is refused, and with it the run
 returns : tie.Need-returns Inv-loop μ-loop
 returns c =
-    let w : tie.After-word-in Inv-loop μ-loop = search in
+    let w : tie.After-read-word-by Inv-loop μ-loop = search in
     let l : tie.At-loop Inv-loop μ-loop = search in
-    let r = refuses (l .loop .inv) (search) (search) (c .before .enum-told .given .1) (w .word-in .ensures) (c .passed .ensures) in
+    let r = refuses (l .loop .inv) (search) (search) (c .before .enum-told .given .1) (w .read-word-by .ensures) (c .passed .ensures) in
     (r .said, r .some)
 
 pub read-run-spec : {M : Type 1} → statement M

@@ -19,7 +19,7 @@ write-run-spec =
     (λ c. omega arith)
     (λ c. omega arith)
     (λ c κs. search needs)
-    (λ c. omega (arith, word-short _ _ _ (c .before .before .put-in .ensures .0)))
+    (λ c. omega (arith, word-short _ _ _ (c .before .before .write-word-by .ensures .0)))
     (λ c. omega arith)
     (λ c. omega arith)
     (λ c. search turn)

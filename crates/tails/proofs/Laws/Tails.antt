@@ -1,4 +1,4 @@
--- Laws of specs/Tails.
+-- The tail: bytes made of the bits behind a place, padding tried bit by bit, bits copied; each loop with its turn and its end.
 -- Assumes nothing.
 use mathlib.Core.Path.{_≡_, refl, sym, ap, ap₂, _∙_}
 use mathlib.Core.Bool.{Bool, false, true, _&&_}
@@ -7,12 +7,12 @@ use Prim.Native.Nat.{ℕ, zero, suc, _+_, _-_, _*_, _/_, _≤_, _<_, min}
 use native.Mathlib.Nat.{add-zero, zero-add}
 use native.Mathlib.Omega.{arith}
 use lib.ListN.{length, replicate, drop, set}
-use Rattle.ground.specs.Fills.{from, table}
+use Rattle.ground.specs.ListsByRule.{from, table}
 use Rattle.ground.proofs.Laws.Runs.{Fronted, fronted-none, fronted-more}
 use Rattle.bits.specs.Bits.{view, val, bytesOf, word, laid, Bytes}
 use Rattle.bits.proofs.Laws.Views.{length-view, view-add, view-lt, take-view, drop-view, view-past}
-use Rattle.bits.proofs.Laws.Numbers.{word-val}
-use Rattle.bits.proofs.Laws.Laid.{laid-append, laid-none, length-laid}
+use Rattle.bits.proofs.Laws.NumbersAsBits.{word-val}
+use Rattle.bits.proofs.Laws.LaidBits.{laid-append, laid-none, length-laid}
 use Rattle.tails.specs.Tails.{tailBytes, tailFrom, clear}
 
 -- ---- the tail's bytes

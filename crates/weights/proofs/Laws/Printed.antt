@@ -8,7 +8,7 @@ use native.Mathlib.Omega.{arith}
 use lib.Dec.{T, leb, ltb, eqb, leb→le, ltb→lt, eqb→eq}
 use lib.ListN.{length}
 use Rattle.ground.specs.Sums.{nth}
-use Rattle.ground.specs.Tables.{every, every-at}
+use Rattle.ground.proofs.Laws.PrintedTables.{every, every-at}
 use Rattle.weights.specs.Table17.{table17, rowAt, bandsOf, heightOf, liftOf, floorOf, has, seek, rowOf}
 
 -- a part of 180 and a sum of n numbers up to 156

@@ -14,10 +14,10 @@ use lib.ListN.{length, getD, replicate, set}
 use mir.Facts.{sfits-widen, toZ-ofZ}
 use mir.Syntax.{w16, w32}
 use mir.Val.{SFits, ofZ, toZ}
-use Rattle.ground.specs.Whole.{Is}
-use Rattle.ground.proofs.Laws.Whole.{is-mag, is-pos, is-same, is-sub}
-use Rattle.ground.proofs.Laws.Filling.{Filling, Falling, filling-one, filling-more, filling-done, falling-one, falling-more, falling-done}
-use Rattle.ground.specs.Fills.{table}
+use Rattle.ground.specs.Differences.{Is}
+use Rattle.ground.proofs.Laws.Differences.{is-mag, is-pos, is-same, is-sub}
+use Rattle.ground.proofs.Laws.FillingLoops.{Filling, Falling, filling-one, filling-more, filling-done, falling-one, falling-more, falling-done}
+use Rattle.ground.specs.ListsByRule.{table}
 use Rattle.ground.specs.Replies.{done, outOfRange}
 use Rattle.ground.specs.Sums.{nth, sumTo}
 use Rattle.weights.specs.Table17.{bandsOf, heightOf, liftOf, floorOf}

@@ -1,7 +1,7 @@
 -- (27), place by place. Assumes nothing.
 use Prim.Native.Nat.{_-_}
 use borrow.Author.Needs.{needs}
-use Rattle.ground.proofs.Laws.Filling.{Filling, filling}
+use Rattle.ground.proofs.Laws.FillingLoops.{Filling, filling}
 use Rattle.weights.proofs.Laws.Printed.{floor-is, lift-is}
 use Rattle.weights.proofs.Laws.Stages.{excess-made}
 use Rattle.weights.specs.Inner.{excess}

@@ -2,7 +2,7 @@
 use Prim.Native.Nat.{_-_}
 use borrow.Author.Needs.{needs}
 use native.Mathlib.Omega.{arith}
-use Rattle.ground.proofs.Laws.Filling.{Filling, Under, filling}
+use Rattle.ground.proofs.Laws.FillingLoops.{Filling, Under, filling}
 use Rattle.ground.specs.Sums.{nth}
 use Rattle.weights.proofs.Laws.Printed.{row-in, row-taken}
 use Rattle.weights.specs.Table17.{rowOf}

@@ -1,7 +1,7 @@
 -- The smallest of the rows passed. Assumes nothing.
 use Prim.Native.Nat.{_-_}
 use borrow.Author.Needs.{needs}
-use Rattle.ground.proofs.Laws.Filling.{Reaching, reaching, reaching-done}
+use Rattle.ground.proofs.Laws.FillingLoops.{Reaching, reaching, reaching-done}
 use Rattle.weights.proofs.Laws.Stages.{least-first, least-next}
 use Rattle.weights.specs.Inner.{least}
 use Rattle.weights.proofs.least_of.Statement.{statement}

@@ -1,7 +1,7 @@
 -- The largest of the rows passed. Assumes nothing.
 use Prim.Native.Nat.{_-_}
 use borrow.Author.Needs.{needs}
-use Rattle.ground.proofs.Laws.Filling.{Reaching, reaching, reaching-done}
+use Rattle.ground.proofs.Laws.FillingLoops.{Reaching, reaching, reaching-done}
 use Rattle.weights.proofs.Laws.Stages.{most-first, most-next}
 use Rattle.weights.specs.Inner.{most}
 use Rattle.weights.proofs.most_of.Statement.{statement}

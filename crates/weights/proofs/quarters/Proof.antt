@@ -1,7 +1,7 @@
 -- The table of quarters, place by place. Assumes nothing.
 use Prim.Native.Nat.{_-_}
 use borrow.Author.Needs.{needs}
-use Rattle.ground.proofs.Laws.Filling.{Filling, Under, filling}
+use Rattle.ground.proofs.Laws.FillingLoops.{Filling, Under, filling}
 use Rattle.weights.specs.Inner.{quarter}
 use Rattle.weights.proofs.quarters.Statement.{statement}
 use Rattle.weights.proofs.quarters.Tie as tie

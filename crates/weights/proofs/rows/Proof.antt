@@ -1,7 +1,7 @@
 -- (24), place by place: a part of 180 for each of H_b bands, and 720 T_b. Assumes nothing.
 use Prim.Native.Nat.{_-_}
 use borrow.Author.Needs.{needs}
-use Rattle.ground.proofs.Laws.Filling.{Filling, filling}
+use Rattle.ground.proofs.Laws.FillingLoops.{Filling, filling}
 use Rattle.weights.proofs.Laws.Printed.{first-is, first-room, height-is, lift-is, part-fits, part-is, row-fits}
 use Rattle.weights.proofs.Laws.Stages.{row-made}
 use Rattle.weights.specs.Inner.{row}

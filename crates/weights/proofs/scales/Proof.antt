@@ -1,7 +1,7 @@
 -- (28), place by place, between the smallest and the largest. Assumes nothing.
 use Prim.Native.Nat.{_-_}
 use borrow.Author.Needs.{needs}
-use Rattle.ground.proofs.Laws.Filling.{Filling, Under, filling}
+use Rattle.ground.proofs.Laws.FillingLoops.{Filling, Under, filling}
 use Rattle.weights.proofs.Laws.Stages.{least-under, most-over, scaled-by, scalesOf}
 use Rattle.weights.proofs.scales.Statement.{statement}
 use Rattle.weights.proofs.scales.Tie as tie

@@ -3,7 +3,7 @@ use borrow.Author.Needs.{needs, sfits-of}
 use mathlib.Core.Path.{_∙_}
 use native.Mathlib.Omega.{arith}
 use mir.Facts.{toZ-ofZ}
-use Rattle.weights.proofs.Laws.Bridge.{score-made}
+use Rattle.weights.proofs.Laws.RaisedNumbers.{score-made}
 use Rattle.weights.proofs.score_of.Statement.{statement}
 use Rattle.weights.proofs.score_of.Tie as tie
 

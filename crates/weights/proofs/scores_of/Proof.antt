@@ -3,7 +3,7 @@ use Prim.Native.Nat.{_-_}
 use borrow.Author.Needs.{needs, sfits-of}
 use mathlib.Core.Path.{_∙_}
 use mir.Facts.{toZ-ofZ}
-use Rattle.ground.proofs.Laws.Filling.{Filling, filling}
+use Rattle.ground.proofs.Laws.FillingLoops.{Filling, filling}
 use Rattle.ground.specs.Sums.{nth}
 use Rattle.ground.proofs.Laws.Indices.{range-at}
 use Rattle.weights.specs.Weights.{score}

@@ -1,7 +1,7 @@
 -- (30), place by place. Assumes nothing.
 use Prim.Native.Nat.{_-_}
 use borrow.Author.Needs.{needs}
-use Rattle.ground.proofs.Laws.Filling.{Filling, Under, filling}
+use Rattle.ground.proofs.Laws.FillingLoops.{Filling, Under, filling}
 use Rattle.weights.specs.Weights.{spread}
 use Rattle.weights.proofs.spreads.Statement.{statement}
 use Rattle.weights.proofs.spreads.Tie as tie

@@ -3,7 +3,7 @@ use Prim.Native.Nat.{_*_, _+_, _-_, _≤_}
 use borrow.Author.Needs.{needs}
 use mathlib.Core.Path.{sym}
 use native.Mathlib.Omega.{arith}
-use Rattle.ground.proofs.Laws.Filling.{Reaching, reaching, reaching-done}
+use Rattle.ground.proofs.Laws.FillingLoops.{Reaching, reaching, reaching-done}
 use Rattle.ground.proofs.Laws.Sums.{sum-next, sum-nil}
 use Rattle.ground.specs.Sums.{nth, sumTo}
 use Rattle.weights.proofs.Laws.Stages.{sum-room}

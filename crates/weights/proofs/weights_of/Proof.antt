@@ -1,6 +1,6 @@
 -- The rows of the paper, laid out over the bands and spread. Assumes nothing.
 use borrow.Author.Needs.{needs}
-use Rattle.weights.proofs.Laws.Bridge.{weights-made}
+use Rattle.weights.proofs.Laws.RaisedNumbers.{weights-made}
 use Rattle.weights.proofs.weights_of.Statement.{statement}
 use Rattle.weights.proofs.weights_of.Tie as tie
 

@@ -1,4 +1,4 @@
--- Laws of specs/Answers.
+-- A word at a place by the tests of the code: in a column, past the end, of fixed bits, none.
 -- Assumes nothing.
 use mathlib.Core.Path.{_≡_, refl, sym, ap, ap₂, _∙_}
 use mathlib.Core.List.{List}

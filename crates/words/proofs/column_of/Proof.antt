@@ -7,4 +7,10 @@ use Rattle.words.proofs.column_of.Statement.{statement}
 use Rattle.words.proofs.column_of.Tie as tie
 
 pub column-of-spec : {M : Type 1} → statement M
-column-of-spec = tie.close (tie.spec (λ c. search needs) (λ c. search needs) (λ c. (sym (column-last _ (omega arith)), omega arith)))
+column-of-spec =
+    tie.close
+    (tie.spec
+    (λ c. search needs)
+    (λ c. search needs)
+    (λ c. search needs)
+    (λ c. (sym (column-last _ (omega arith)), omega arith)))

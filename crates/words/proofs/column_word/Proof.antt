@@ -3,7 +3,7 @@ use Prim.Native.Nat.{_≤_, _<_}
 use native.Mathlib.Omega.{arith}
 use denote.Ref.{now}
 use Rattle.bits.proofs.Laws.Views.{view-lt}
-use Rattle.words.proofs.Laws.Look.{column-lacking-cut, column-lacking, column-cut, column-fine}
+use Rattle.words.proofs.Laws.ReadingTable.{column-lacking-cut, column-lacking, column-cut, column-fine}
 use borrow.Author.Needs.{needs}
 use Rattle.words.proofs.column_word.Statement.{statement}
 use Rattle.words.proofs.column_word.Tie as tie

@@ -1,5 +1,5 @@
 -- `words::has_word` meets its contract: below 2 to the bits, or below the column's size. Assumes nothing.
-use Rattle.words.proofs.Laws.Spell.{fit-fixed, fit-column}
+use Rattle.words.proofs.Laws.WritingTable.{fit-fixed, fit-column}
 use borrow.Author.Needs.{needs}
 use Rattle.words.proofs.has_word.Statement.{statement}
 use Rattle.words.proofs.has_word.Tie as tie

@@ -1,7 +1,7 @@
 -- `words::size_of` meets its contract: a column ends where the next begins. Assumes nothing.
 use borrow.Author.Needs.{needs}
 use native.Mathlib.Omega.{arith}
-use Rattle.words.proofs.Laws.Spell.{start-more}
+use Rattle.words.proofs.Laws.WritingTable.{start-more}
 use Rattle.words.proofs.size_of.Statement.{statement}
 use Rattle.words.proofs.size_of.Tie as tie
 

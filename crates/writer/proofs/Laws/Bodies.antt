@@ -1,4 +1,4 @@
--- Laws of specs/Bodies.
+-- The bits that the code lays are the codec's; what a reply of 0 tells, and that what obeys the rules is answered 0.
 -- Assumes nothing.
 use mathlib.Core.Path.{_≡_, refl, sym, ap, ap₂, _∙_}
 use mathlib.Core.Bool.{Bool, true, false}
@@ -10,9 +10,9 @@ use lib.ListN.{length, take, drop, set, length-append}
 use Rattle.ground.proofs.Laws.Refusals.{by-rows, first-none, neither-first}
 use Rattle.ground.specs.Replies.{done}
 use Rattle.bits.specs.Bits.{num, word, view, laid, bytesOf, Bytes}
-use Rattle.bits.proofs.Laws.Numbers.{length-word}
+use Rattle.bits.proofs.Laws.NumbersAsBits.{length-word}
 use Rattle.bits.proofs.Laws.Views.{length-view}
-use Rattle.bits.proofs.Laws.Laid.{laid-append, laid-behind}
+use Rattle.bits.proofs.Laws.LaidBits.{laid-append, laid-behind}
 use Rattle.bits.specs.Codecs.{writeAll, words, raw}
 use Rattle.words.specs.Tables.{coding}
 use Rattle.bits.proofs.Laws.Codings.{word-fixed}
@@ -27,12 +27,12 @@ use Rattle.norms.proofs.Laws.Codec.{write-is, ok-writable}
 use Rattle.norms.proofs.Laws.Part.{norm-bits}
 use Rattle.norms.specs.Answers.{normCauses}
 use Rattle.norms.proofs.Laws.Answers.{writable-reply}
-use Rattle.kinds.specs.Budget.{spare}
-use Rattle.kinds.proofs.Laws.Budget.{spare-le}
+use Rattle.kinds.specs.Budget.{noiseBits}
+use Rattle.kinds.proofs.Laws.Budget.{noise-le}
 use Rattle.frame.specs.Layout.{budgetOf, codeBits, tailLeft, codesPart, frame}
 use Rattle.frame.proofs.Laws.Layout.{frame-bits}
 use Rattle.frame.specs.declared.Record.{Record}
-use Rattle.writer.specs.Tests.{quietOf}
+use Rattle.writer.specs.Noise.{noiseFits}
 use Rattle.layout.proofs.Laws.Fits.{fits-all, all-fits}
 use Rattle.layout.specs.Parts.{flagBits, total, kindsFor, codeCauses}
 use Rattle.writer.specs.Writes.{frameOf, bytesFor, roomCauses, tailCauses, writeCauses, writeReply, outAfter, writingOf}
@@ -46,7 +46,7 @@ pub body-is : (r : Record) (cs ts : List ℕ) → frame (total r) .write (frameO
 unfolding frame codesPart words bodyBits raw
 body-is r cs ts =
     ap₂ (λ (x y : List Bool). flagBits r ++ (x ++ (writeAll (map coding (kindsFor r)) (take 800 cs) ++ (y ++ view ts 0 (r .«tail_bits»)))))
-    (write-is (r .transient) (r .«flag_n») (r .norms)) (word-fixed (spare (r .transient)) (r .noise))
+    (write-is (r .transient) (r .«flag_n») (r .norms)) (word-fixed (noiseBits (r .transient)) (r .noise))
 
 -- the flags as a number
 pub flag-word : (a b c d : Bool) → word 4 (num a * 8 + num b * 4 + num c * 2 + num d) ≡ a ∷ b ∷ c ∷ d ∷ []
@@ -74,7 +74,7 @@ module _ (r : Record) (vs ts s₀ s₁ s₂ s₃ s₄ s₅ : List ℕ) (f n m k 
     (ef : word 4 f ≡ flagBits r) (e₁ : s₁ ≡ laid s₀ 8 (word 4 f))
     (en : n ≡ length (normBits (r .transient) (r .«flag_n») (r .norms))) (e₂ : s₂ ≡ laid s₁ 12 (normBits (r .transient) (r .«flag_n») (r .norms)))
     (em : m ≡ length (writeAll (map coding (kindsFor r)) vs)) (e₃ : s₃ ≡ laid s₂ (12 + n) (writeAll (map coding (kindsFor r)) vs))
-    (ek : k ≡ spare (r .transient)) (ez : z ≡ r .noise) (e₄ : s₄ ≡ laid s₃ (12 + n + m) (word (min k 16) z))
+    (ek : k ≡ noiseBits (r .transient)) (ez : z ≡ r .noise) (e₄ : s₄ ≡ laid s₃ (12 + n + m) (word (min k 16) z))
     (e₅ : s₅ ≡ laid s₄ (12 + n + m + k) (view ts 0 (r .«tail_bits»))) where
   a : List Bool
   a = flagBits r
@@ -86,7 +86,7 @@ module _ (r : Record) (vs ts s₀ s₁ s₂ s₃ s₄ s₅ : List ℕ) (f n m k 
   c = writeAll (map coding (kindsFor r)) vs
 
   d : List Bool
-  d = word (spare (r .transient)) (r .noise)
+  d = word (noiseBits (r .transient)) (r .noise)
 
   e : List Bool
   e = view ts 0 (r .«tail_bits»)
@@ -115,7 +115,7 @@ module _ (r : Record) (vs ts s₀ s₁ s₂ s₃ s₄ s₅ : List ℕ) (f n m k 
   unfolding b c d
   four-parts =
       let p : 12 + n + m ≡ 8 + length ((a ++ b) ++ c) = omega (arith, length-append (a ++ b) c, length-append a b, four, en, em) in
-      let q : min k 16 ≡ spare (r .transient) = omega (arith, ek, spare-le (r .transient)) in
+      let q : min k 16 ≡ noiseBits (r .transient) = omega (arith, ek, noise-le (r .transient)) in
       e₄ ∙ ap (laid s₃ (12 + n + m)) (ap₂ word q ez) ∙ ap₂ (λ (x : List ℕ) (i : ℕ). laid x i d) three p ∙ laid-append s₀ 8 ((a ++ b) ++ c) d
 
   pub body-laid : s₅ ≡ laid s₀ 8 (bodyBits r vs ts)
@@ -131,7 +131,7 @@ module _ (r : Record) (vs ts s₀ s₁ s₂ s₃ s₄ s₅ : List ℕ) (f n m k 
         en,
         em,
         ek,
-        length-word (spare (r .transient)) (r .noise),
+        length-word (noiseBits (r .transient)) (r .noise),
       ) in
       e₅ ∙ ap₂ (λ (x : List ℕ) (i : ℕ). laid x i e) four-parts p ∙ laid-append s₀ 8 (((a ++ b) ++ c) ++ d) e
       ∙ ap (laid s₀ 8) (append-assoc ((a ++ b) ++ c) d e ∙ append-assoc (a ++ b) c (d ++ e) ∙ append-assoc a b (c ++ (d ++ e)))
@@ -159,8 +159,8 @@ writes r cs ts room P =
 
 -- ---- a record that passes means a frame of its mode's length
 
-quiet-fit : (t : Bool) (z : ℕ) → quietOf t z ≡ true → z < 2 ^ spare t
-unfolding quietOf spare
+quiet-fit : (t : Bool) (z : ℕ) → noiseFits t z ≡ true → z < 2 ^ noiseBits t
+unfolding noiseFits noiseBits
 quiet-fit true z e = omega (arith, eqb-true z 0 e)
 quiet-fit false z e = omega (arith, ltb-true z 4 e)
 
@@ -185,7 +185,7 @@ module _ (r : Record) (cs ts : List ℕ) (room : ℕ) (l : length (r .norms) ≡
         arith,
         frame-bits (total r) (frameOf r cs ts) meant,
         P .paid,
-        spare-le (r .transient),
+        noise-le (r .transient),
         norm-bits (r .transient) (r .«flag_n») (r .norms) writable .1,
         mode-bounds (r .mode) (omega (arith, P .rooms .mode)) .0,
       )

@@ -1,4 +1,4 @@
--- Laws of specs/Empty.
+-- The empty frame with and without room, and that it reads as one.
 -- Assumes nothing.
 use mathlib.Core.Path.{_≡_, refl}
 use mathlib.Core.List.{List, [], _∷_}

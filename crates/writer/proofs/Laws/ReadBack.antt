@@ -12,7 +12,7 @@ use borrow.Author.Tests.{lt-ltb, le-ltb}
 use Rattle.ground.specs.Replies.{done}
 use Rattle.bits.specs.Bits.{view, bitsOf, bytesOf, Bytes}
 use Rattle.bits.proofs.Laws.Bytes.{length-bytes, bits-bytes, bytes-bits, length-bits, view-part}
-use Rattle.bits.proofs.Laws.Laid.{bits-append}
+use Rattle.bits.proofs.Laws.LaidBits.{bits-append}
 use Rattle.bits.proofs.Laws.Views.{length-view, view-add}
 use Rattle.prefix.specs.Sizes.{modeBytes}
 use Rattle.prefix.proofs.Laws.Sizes.{mode-bounds}

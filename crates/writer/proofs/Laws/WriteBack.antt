@@ -10,10 +10,10 @@ use lib.Dec.{ltb}
 use lib.ListN.{length, getD, take, drop, replicate, length-append, length-map, length-replicate}
 use lib.Seq.{take-at}
 use borrow.Author.Tests.{lt-ltb, eq-eqb, ltb-true, ltb-false}
-use Rattle.ground.specs.Cases.{by-bool}
+use Rattle.ground.proofs.Laws.Cases.{by-bool}
 use Rattle.bits.specs.Bits.{view, bitsOf, bytesOf, Bytes}
 use Rattle.bits.proofs.Laws.Bytes.{length-bytes, bits-bytes, bytes-bits, length-bits, view-part}
-use Rattle.bits.proofs.Laws.Laid.{bits-append, bytes-drop, bytes-take}
+use Rattle.bits.proofs.Laws.LaidBits.{bits-append, bytes-drop, bytes-take}
 use Rattle.bits.proofs.Laws.Views.{view-rest, view-front}
 use Rattle.bits.specs.Codings.{Answer, got, no}
 use Rattle.bits.specs.Codecs.{FitAll, words, raw}
@@ -32,13 +32,13 @@ use Rattle.norms.proofs.Laws.Answers.{reply-writable}
 use Rattle.kinds.proofs.Laws.Kinds.{length-kinds}
 use Rattle.frame.specs.Layout.{Frame, flagsIn, frame, budgetOf, kindsOf, codeBits, tailLeft, codesPart}
 use Rattle.frame.proofs.Laws.Layout.{frame-lawful, frame-whole, frame-bits}
-use Rattle.kinds.specs.Budget.{spare, kindsAt}
-use Rattle.kinds.proofs.Laws.Budget.{spare-le}
+use Rattle.kinds.specs.Budget.{noiseBits, kindsAt}
+use Rattle.kinds.proofs.Laws.Budget.{noise-le}
 use Rattle.frame.proofs.Laws.Reads.{read-codes-short, read-tail-short, read-started, data-cut, data-whole, length-body}
 use Rattle.frame.specs.Answers.{sound, outcome, readBody, bodyOf, started, readAnswer, recordOf, codesAfter, tailAfter}
 use Rattle.tails.specs.Tails.{tailBytes, clear}
 use Rattle.frame.specs.declared.Record.{Record}
-use Rattle.writer.specs.Tests.{quietOf}
+use Rattle.writer.specs.Noise.{noiseFits}
 use Rattle.layout.specs.Parts.{budgetFor, kindsFor, codesLong}
 use Rattle.writer.specs.Writes.{frameOf, bytesFor, writeReply}
 use Rattle.writer.specs.Bodies.{Passed}
@@ -149,8 +149,8 @@ module _ (b : List Bool) (rest : List ℕ) (l : length b ≤ 2560) where
 bytes-body : (n : ℕ) (src : List ℕ) → Bytes src → Bytes (bodyOf n src)
 bytes-body n src h = bytes-take n (drop 1 src) (bytes-drop 1 src h)
 
-fit-quiet : (t : Bool) (z : ℕ) → z < 2 ^ spare t → quietOf t z ≡ true
-unfolding quietOf spare
+fit-quiet : (t : Bool) (z : ℕ) → z < 2 ^ noiseBits t → noiseFits t z ≡ true
+unfolding noiseFits noiseBits
 fit-quiet true z h = eq-eqb z 0 (omega arith)
 fit-quiet false z h = lt-ltb z 4 (omega arith)
 
@@ -179,7 +179,7 @@ module _ (mode : ℕ) (a b c d : Bool) (ns vs : List ℕ) (z : ℕ) (tb : List B
   unfolding frame codesPart words f x t
   ok-codes = ok .1 .1 .0
 
-  ok-noise : z < 2 ^ spare a
+  ok-noise : z < 2 ^ noiseBits a
   unfolding frame f x t
   ok-noise = ok .1 .1 .1 .0
 
@@ -217,7 +217,7 @@ module _ (mode : ℕ) (a b c d : Bool) (ns vs : List ℕ) (z : ℕ) (tb : List B
         length-append (frame t .write x) [],
         length-bits body,
         length-body src (modeBytes mode) (S .long),
-        spare-le a,
+        noise-le a,
         norm-bits a c ns ok-norms .1,
         mode-bounds mode (S .low) .0,
       )

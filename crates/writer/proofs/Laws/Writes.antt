@@ -1,4 +1,4 @@
--- Laws of specs/Writes.
+-- The causes of writing by their tests, in 01's order: the rooms and the noise, the norms and the codes, the tail.
 -- Assumes nothing.
 use mathlib.Core.Path.{_≡_, refl, sym, ap, _∙_}
 use mathlib.Core.Bool.{true}
@@ -8,7 +8,7 @@ use native.Mathlib.Omega.{arith}
 use lib.Dec.{T, ltb, eqb}
 use lib.ListN.{length, take}
 use borrow.Author.Tests.{le-ltb, ltb-false, not-false, eqb-true, eqb-false}
-use Rattle.ground.specs.Cases.{by-bool}
+use Rattle.ground.proofs.Laws.Cases.{by-bool}
 use Rattle.ground.specs.Refusals.{Cause, said, first, notDone}
 use Rattle.ground.proofs.Laws.Refusals.{numbers, by-rows, row-fails, first-none, front-first, back-first}
 use Rattle.bits.specs.Bits.{view}

@@ -1,5 +1,5 @@
 -- `writer::is_quiet` meets its contract. Assumes nothing.
-use Rattle.writer.proofs.Laws.Tests.{quiet-transient, quiet-stationary}
+use Rattle.writer.proofs.Laws.Noise.{quiet-transient, quiet-stationary}
 use Rattle.writer.proofs.is_quiet.Statement.{statement}
 use Rattle.writer.proofs.is_quiet.Tie as tie
 

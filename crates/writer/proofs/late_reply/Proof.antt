@@ -14,9 +14,9 @@ use Rattle.writer.proofs.late_reply.Tie as tie
 padding : (d : tie.After-all-clear)
     → let a : tie.Start = search in d .all-clear .result ≡ clear (view (now (a .args .tail)) (a .args .count) (2560 - a .args .count))
 padding d =
-    let w : tie.After-wide16 = search in
+    let w : tie.After-size-from-u16 = search in
     let a : tie.Start = search in
-    d .all-clear .ensures ∙ ap (λ (k : ℕ). clear (view (now (a .args .tail)) k (2560 - k))) (w .wide16 .ensures .0)
+    d .all-clear .ensures ∙ ap (λ (k : ℕ). clear (view (now (a .args .tail)) k (2560 - k))) (w .size-from-u16 .ensures .0)
 
 pub late-reply-spec : {M : Type 1} → statement M
 unfolding tailCauses

@@ -4,7 +4,7 @@ use native.Mathlib.Omega.{arith}
 use denote.Ref.{now}
 use lib.ListN.{length, take, length-set}
 use lib.Seq.{length-take-le}
-use Rattle.bits.proofs.Laws.Laid.{length-laid}
+use Rattle.bits.proofs.Laws.LaidBits.{length-laid}
 use Rattle.layout.proofs.Laws.Parts.{started, Planned, planned, budget-small, layout-planned}
 use Rattle.writer.specs.Writes.{writeReply}
 use Rattle.writer.proofs.Laws.Writes.{reply-early, reply-start, reply-late}
@@ -88,12 +88,12 @@ same-length c =
 returns-5 : tie.Need-returns-5
 returns-5 c =
     let b : tie.After-write-body = search in
-    let v : tie.After-wide16 = search in
+    let v : tie.After-size-from-u16 = search in
     let y : tie.After-bytes = search in
     let f : tie.After-byte = search in
     let w : tie.After-write-prefix = search in
     let d : tie.Else3 = search in
-    pass-out (ready d) (v .wide16 .ensures .0 ∙ y .bytes .ensures)
+    pass-out (ready d) (v .size-from-u16 .ensures .0 ∙ y .bytes .ensures)
     (sym (w .write-prefix .ensures) ∙ f .byte .given .1) (b .write-body .ensures)
 
 pub write-spec : {M : Type 1} → statement M

@@ -10,7 +10,7 @@ use Rattle.bits.specs.Codecs.{writeAll}
 use Rattle.words.specs.Tables.{coding}
 use Rattle.runs.proofs.Laws.Writes.{run-few}
 use Rattle.norms.proofs.Laws.Part.{bits-few}
-use Rattle.kinds.proofs.Laws.Budget.{spare-le}
+use Rattle.kinds.proofs.Laws.Budget.{noise-le}
 use Rattle.writer.proofs.Laws.Bodies.{body-laid}
 use borrow.Author.Needs.{needs}
 use Rattle.writer.proofs.write_body.Statement.{statement}
@@ -24,8 +24,8 @@ norms-few n =
     let a : tie.Start = search in
     omega (arith, n .write-norms .ensures .0, bits-few (a .args .r .transient) (a .args .r .«flag_n») (a .args .r .norms))
 
-few : (d : tie.After-spare-of) → let w : tie.After-write-words = search in let n : tie.After-write-norms = search in
-    (n .write-norms .result ≤ 704) × (w .write-words .result ≤ 12800) × (d .spare-of .result ≤ 2)
+few : (d : tie.After-noise-bits) → let w : tie.After-write-words = search in let n : tie.After-write-norms = search in
+    (n .write-norms .result ≤ 704) × (w .write-words .result ≤ 12800) × (d .noise-bits .result ≤ 2)
 few d =
     let w : tie.After-write-words = search in
     let n : tie.After-write-norms = search in
@@ -34,7 +34,7 @@ few d =
     let a : tie.Start = search in (
       norms-few n,
       omega (arith, w .write-words .ensures .0, run-few (now (a .args .kinds)) (now (a .args .numbers)), a .pre .1),
-      omega (arith, d .spare-of .ensures, spare-le (a .args .r .transient)),
+      omega (arith, d .noise-bits .ensures, noise-le (a .args .r .transient)),
     )
 
 write-words-requires : tie.Need-write-words-requires
@@ -48,10 +48,10 @@ write-words-requires c κs =
 returns : tie.Need-returns
 returns c =
     let at-copy-bits : tie.After-copy-bits = search in
-    let at-wide16 : tie.After-wide16 = search in
+    let at-size-from-u16 : tie.After-size-from-u16 = search in
     let at-write-bits2 : tie.After-write-bits2 = search in
-    let at-wide8 : tie.After-wide8 = search in
-    let at-spare-of : tie.After-spare-of = search in
+    let at-size-from-u8 : tie.After-size-from-u8 = search in
+    let at-noise-bits : tie.After-noise-bits = search in
     let at-write-words : tie.After-write-words = search in
     let at-out2 : tie.After-out2 = search in
     let at-write-norms : tie.After-write-norms = search in
@@ -72,10 +72,10 @@ returns c =
     (n .ensures .1)
     (w .ensures .0 ∙ ap (λ (l : List ℕ). length (writeAll (map coding l) vs)) q)
     (w .ensures .1 ∙ ap (λ (l : List ℕ). laid (n .last .0) (12 + n .result) (writeAll (map coding l) vs)) q)
-    (at-spare-of .spare-of .ensures) (at-wide8 .wide8 .ensures .0) (at-write-bits2 .write-bits2 .ensures)
+    (at-noise-bits .noise-bits .ensures) (at-size-from-u8 .size-from-u8 .ensures .0) (at-write-bits2 .write-bits2 .ensures)
     (at-copy-bits .copy-bits .ensures ∙ ap
-    (λ (t : ℕ). laid (at-write-bits2 .write-bits2 .last .0) (12 + n .result + w .result + at-spare-of .spare-of .result) (view ts 0 t))
-    (at-wide16 .wide16 .ensures .0))
+    (λ (t : ℕ). laid (at-write-bits2 .write-bits2 .last .0) (12 + n .result + w .result + at-noise-bits .noise-bits .result) (view ts 0 t))
+    (at-size-from-u16 .size-from-u16 .ensures .0))
 
 pub write-body-spec : {M : Type 1} → statement M
 write-body-spec =
@@ -92,9 +92,9 @@ write-body-spec =
     (λ c κs. search needs)
     (λ c κs. search needs)
     (λ c κs. search needs)
-    (λ c. let w : tie.After-out4 = search in let d : tie.After-spare-of = search in omega (arith, few d))
-    (λ c. let w : tie.After-out4 = search in let d : tie.After-spare-of = search in omega (arith, few d))
-    (λ c. let w : tie.After-out4 = search in let d : tie.After-spare-of = search in omega (arith, few d))
-    (λ c κs. let w : tie.After-out4 = search in let d : tie.After-spare-of = search in omega (arith, few d, c .before .wide16 .ensures .1))
+    (λ c. let w : tie.After-out4 = search in let d : tie.After-noise-bits = search in omega (arith, few d))
+    (λ c. let w : tie.After-out4 = search in let d : tie.After-noise-bits = search in omega (arith, few d))
+    (λ c. let w : tie.After-out4 = search in let d : tie.After-noise-bits = search in omega (arith, few d))
+    (λ c κs. let w : tie.After-out4 = search in let d : tie.After-noise-bits = search in omega (arith, few d, c .before .size-from-u16 .ensures .1))
     (λ c. search needs)
     returns)

@@ -1,0 +1,23 @@
+-- `words::read_word_by` meets its contract: nothing at an unused place, a column's word, or as many bits. Assumes nothing.
+use mathlib.Core.Path.{_∙_}
+use Rattle.bits.proofs.Laws.Views.{read-lt}
+use Rattle.words.proofs.Laws.Answers.{at-none, at-column, at-past, at-fixed}
+use borrow.Author.Needs.{needs}
+use Rattle.words.proofs.read_word_by.Statement.{statement}
+use Rattle.words.proofs.read_word_by.Tie as tie
+
+pub read-word-by-spec : {M : Type 1} → statement M
+read-word-by-spec =
+    tie.close
+    (tie.spec
+    (λ c. search at-none)
+    (λ c κs. search needs)
+    (λ c κs. search needs)
+    (λ c κs. search needs)
+    (λ c κs. search needs)
+    (λ c. search (at-column, _∙_))
+    (λ c. search at-past)
+    (λ c κs. search needs)
+    (λ c. record { fits = search read-lt })
+    (λ c. search needs)
+    (λ c. search at-fixed))

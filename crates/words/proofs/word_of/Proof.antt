@@ -1,0 +1,19 @@
+-- `words::word_of` meets its contract: the number itself, no bits, or the word back from its number. Assumes nothing.
+use native.Mathlib.Omega.{arith}
+use Rattle.words.proofs.Laws.WritingTable.{written-fixed, written-none, written-word}
+use borrow.Author.Needs.{needs}
+use Rattle.words.proofs.word_of.Statement.{statement}
+use Rattle.words.proofs.word_of.Tie as tie
+
+pub word-of-spec : {M : Type 1} → statement M
+word-of-spec =
+    tie.close
+    (tie.spec
+    (λ c κs. search needs)
+    (λ c κs. search needs)
+    (λ c. (search written-fixed, omega arith))
+    (λ c κs. search needs)
+    (λ c κs. search needs)
+    (λ c. (search written-none, omega arith))
+    (λ c κs. let a : tie.Start = search in (a .pre, search needs, search needs))
+    (λ c. (search written-word, omega arith)))
