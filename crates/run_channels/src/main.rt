@@ -6,6 +6,7 @@ use block_writer::Records;
 use channels::Copied;
 use frame::Reading;
 use frame::Record;
+use ground::numbers::u16_from_u8;
 use run_lines::checksums;
 use run_lines::checksums::mixed;
 use run_lines::lines;
@@ -14,19 +15,18 @@ use run_lines::lists::fill_numbers;
 use run_lines::numbers::least;
 use run_lines::numbers::low;
 use run_lines::numbers::of_flag;
-use run_lines::numbers::widened;
 use run_lines::records::record_at;
 use run_lines::show;
 
 // A checksum of a record: its norms, then mode, flags, noise and tail's bit count.
 fn check_record(r: Record) -> u64 {
     let norms = r.norms;
-    let a = mixed(checksums::of_bytes(&norms), widened(r.mode));
+    let a = mixed(checksums::of_bytes(&norms), u16_from_u8(r.mode));
     let b = mixed(a, of_flag(r.transient));
     let c = mixed(b, of_flag(r.flag_l));
     let d = mixed(c, of_flag(r.flag_n));
     let e = mixed(d, of_flag(r.flag_c));
-    mixed(mixed(e, widened(r.noise)), r.tail_bits)
+    mixed(mixed(e, u16_from_u8(r.noise)), r.tail_bits)
 }
 
 fn show_reading(r: Reading) {

@@ -4,7 +4,7 @@ ghost use Prim.Native.Nat.{_<_, _≤_};
 ghost use lib.ListN.{length};
 use crate::numbers::least;
 use crate::numbers::low;
-use crate::numbers::widened;
+use ground::numbers::u16_from_u8;
 
 // A number and the place after it.
 struct Number {
@@ -33,7 +33,7 @@ fn number_at(s: &[u8], at: usize) -> Number
     let mut value: usize = 0;
     let mut p = at;
     while p < s.len() {
-        let b = widened(s[p]);
+        let b = u16_from_u8(s[p]);
         if b < 48 {
             return Number { value, next: p };
         }

@@ -1,6 +1,7 @@
 // Small numbers.
+ghost use mathlib.Core.Bool.{cond};
 ghost use mathlib.Core.Path.{_≡_};
-ghost use Prim.Native.Nat.{_%_, _<_, _≤_};
+ghost use Prim.Native.Nat.{_%_, _≤_};
 
 // The lesser of two.
 pub fn least(a: usize, b: usize) -> usize
@@ -16,16 +17,9 @@ pub fn low(x: u16) -> u8
     (x % 256) as u8
 }
 
-// A byte as a number of 16 bits.
-pub fn widened(x: u8) -> u16
-    ensures { λ r. ⌜ (r ≡ x) × (r < 256) ⌝ }
-{
-    x as u16
-}
-
 // A flag as a number.
 pub fn of_flag(b: bool) -> u16
-    ensures { λ r. ⌜ r ≤ 1 ⌝ }
+    ensures { λ r. ⌜ r ≡ cond b 1 0 ⌝ }
 {
     if b { 1 } else { 0 }
 }

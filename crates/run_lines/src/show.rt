@@ -2,8 +2,8 @@
 use crate::checksums;
 use crate::numbers::least;
 use crate::numbers::of_flag;
-use crate::numbers::widened;
 use ground::numbers::minus;
+use ground::numbers::u16_from_u8;
 use libc::STDOUT_FILENO;
 
 pub fn text(s: &[u8]) {
@@ -44,7 +44,7 @@ pub fn answer(name: &[u8], reply: u8, next: usize) {
 // Each byte as a number.
 pub fn numbers(xs: &[u8]) {
     for i in 0usize..xs.len() {
-        number(widened(xs[i]) as u64);
+        number(u16_from_u8(xs[i]) as u64);
     }
 }
 
@@ -52,7 +52,7 @@ pub fn numbers(xs: &[u8]) {
 pub fn bytes(xs: &[u8]) {
     text(b" ");
     for i in 0usize..xs.len() {
-        hexadecimal(widened(xs[i]) as u64, 2);
+        hexadecimal(u16_from_u8(xs[i]) as u64, 2);
     }
 }
 

@@ -2,11 +2,11 @@
 ghost use Prim.Native.Nat.{_<_};
 ghost use lib.ListN.{length};
 use frame::Record;
+use ground::numbers::u16_from_u8;
 use run_lines::lines;
 use run_lines::lists::fill_bytes;
 use run_lines::lists::fill_numbers;
 use run_lines::numbers::least;
-use run_lines::numbers::widened;
 use run_lines::records::record_at;
 use run_lines::show;
 
@@ -15,7 +15,7 @@ fn numbers_of(xs: &[u8]) -> [u16; 400] {
     let mut out = [0u16; 400];
     let n = least(xs.len(), 400);
     for i in 0usize..n {
-        out[i] = widened(xs[i]);
+        out[i] = u16_from_u8(xs[i]);
     }
     out
 }

@@ -34,11 +34,9 @@ use Rattle.channels.proofs.Laws.Walks.{walk-made, check-counted}
 use Rattle.joining.proofs.Laws.Joining.{length-recording}
 use Rattle.channels.proofs.Laws.Cuts as cuts
 use Rattle.block_writer.specs.declared.Records.{Records}
-use lib.Dec.{eqb}
-use mathlib.Core.Bool.{cond}
-use borrow.Author.Tests.{eqb-true}
 use Rattle.block_reader.specs.declared.Block.{Block}
 use Rattle.writer.specs.declared.Writing.{Writing}
+use Rattle.promises.proofs.Laws.Picked.{made-reply}
 use Rattle.promises.specs.Channels.{Joins, BlockTrips, BlockChecks, Channels, handedOn}
 
 -- what a reply of 0 of the check says
@@ -165,19 +163,16 @@ cut-between-blocks {n} {k} {s} a b B few booking =
 
 -- ---- blocks read and written
 
--- an answer that is made by its reply: 0 only where that is 0
-reply-made : {A : Type 0} (reply : A → ℕ) (x : ℕ) (fine other : A) → reply other ≡ x → reply (cond (eqb x 0) fine other) ≡ 0 → x ≡ 0
-reply-made reply x fine other e z = by-bool (eqb x 0) (λ t. eqb-true x 0 t) (λ t. sym e ∙ (rw t at z))
-
 module _ (src : List ℕ) (n : ℕ) (codes tails : List ℕ) where
   read-done : reading.blockAnswer (reading.blockReply src n (length codes) (length tails)) src n .reply ≡ done
       → reading.blockReply src n (length codes) (length tails) ≡ done
-  read-done z = reply-made (λ (b : Block). b .reply) (reading.blockReply src n (length codes) (length tails)) _ _ refl z
+  read-done z = sym (made-reply (λ (b : Block). b .reply) (reading.blockReply src n (length codes) (length tails)) _ _ refl refl) ∙ z
 
 written-done : (r : Records) (n : ℕ) (codes tails out : List ℕ)
     → writing.blockAnswer (writing.blockReply r n codes tails (length out)) r n codes tails .reply ≡ done
     → writing.blockReply r n codes tails (length out) ≡ done
-written-done r n codes tails out z = reply-made (λ (w : Writing). w .reply) (writing.blockReply r n codes tails (length out)) _ _ refl z
+written-done r n codes tails out z =
+    sym (made-reply (λ (w : Writing). w .reply) (writing.blockReply r n codes tails (length out)) _ _ refl refl) ∙ z
 
 trips : BlockTrips
 trips =

@@ -58,7 +58,7 @@ use Rattle.joining.specs.Joining.{joinAnswer}
 use Rattle.ground.specs.Refusals.{first, among, OneOf}
 use Rattle.promises.specs.Calls as call
 use Rattle.promises.specs.Demand1.{Refused, Untouched, Zeros, NextPlaces, Demand1, placeOn}
-use Rattle.promises.proofs.Laws.Picked.{picked}
+use Rattle.promises.proofs.Laws.Picked.{picked, made-reply}
 use Rattle.promises.proofs.Laws.Readings.{each-reading}
 use Rattle.promises.proofs.Laws.Numbered.{numbered}
 use Rattle.promises.proofs.Laws.OneOf.{apart}
@@ -66,10 +66,6 @@ use Rattle.promises.proofs.Laws.WalkNumbers.{walking, checking, check-n
 use Rattle.promises.proofs.Laws.Copies.{each-extract, each-join}
 
 -- ---- what was lent
-
--- an answer that is made by its reply: 0 where that is 0
-not-done : {A : Type 0} (reply : A → ℕ) (x : ℕ) (fine other : A) → reply fine ≡ 0 → Refused (reply (cond (eqb x 0) fine other)) → Refused x
-not-done reply x fine other e n z = n (rw (eq-eqb x 0 z) e)
 
 read-keeps : (codes tail : List ℕ) (o : Outcome) → Refused (readingOf o .reply) → (codesAfter codes o ≡ codes) × (tailAfter tail o ≡ tail)
 read-keeps codes tail (refused x) n = (refl, refl)
@@ -92,7 +88,7 @@ untouched =
       write =
           λ r codes tail out n.
           let x = writeReply r codes tail (length out) in
-          rw (ne-eqb x 0 (not-done (λ (w : Writing). w .reply) x _ _ refl n));
+          rw (ne-eqb x 0 (λ z. n (made-reply (λ (w : Writing). w .reply) x _ _ refl refl ∙ z)));
       write-empty = empty-keeps;
       list = list-keeps;
       extract = λ src channels channel out n. rw (ne-eqb (extractAnswer src channels channel (length out) .reply) 0 n);
@@ -100,12 +96,12 @@ untouched =
       read-block =
           λ src channels codes tails n.
           let x = blockRead.blockReply src channels (length codes) (length tails) in
-          let m = not-done (λ (b : Block). b .reply) x _ _ refl n in
+          let m : Refused x = λ z. n (made-reply (λ (b : Block). b .reply) x _ _ refl refl ∙ z) in
           (rw (ne-eqb x 0 m), rw (ne-eqb x 0 m));
       write-block =
           λ r channels codes tails out n.
           let x = blockWritten.blockReply r channels codes tails (length out) in
-          rw (ne-eqb x 0 (not-done (λ (w : Writing). w .reply) x _ _ refl n));
+          rw (ne-eqb x 0 (λ z. n (made-reply (λ (w : Writing). w .reply) x _ _ refl refl ∙ z)));
     }
 
 -- ---- the answer

@@ -39,20 +39,17 @@ use Rattle.codebook.specs.Codebook.{rowPoint, rowIndex, noRow}
 use Rattle.codebook.proofs.Laws.OneToOne as codebook-laws
 use Rattle.frame.proofs.Laws.PlainCodes as reading
 use Rattle.writer.proofs.Laws.PlainCodes as writing
-use borrow.Author.Tests.{eq-eqb, eqb-true}
-use lib.Dec.{eqb}
-use mathlib.Core.Bool.{cond}
-use Rattle.ground.proofs.Laws.Cases.{by-bool}
 use Rattle.writer.specs.Writes.{writingOf}
 use Rattle.writer.specs.declared.Writing.{Writing}
 use Rattle.frame.specs.declared.Reading.{Reading}
 use Rattle.promises.specs.Calls as call
 use Rattle.promises.specs.Demand2.{RoundTrips, ByTheRules, Points, Demand2, withTail}
+use Rattle.promises.proofs.Laws.Picked.{made-reply}
 use Rattle.promises.proofs.Laws.Readings.{each-reading}
 
 -- the reply of a writing is the number that it was made by
 writing-reply : (x mode : ℕ) → writingOf x mode .reply ≡ x
-writing-reply x mode = by-bool (eqb x 0) (λ t. rw t (sym (eqb-true x 0 t))) (λ t. rw t refl)
+writing-reply x mode = made-reply (λ (w : Writing). w .reply) x _ _ refl refl
 
 -- a refusal is never 0
 abbrev NotDone : Outcome → Type 0
