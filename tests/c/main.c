@@ -1026,7 +1026,7 @@ static void refused_blocks(void)
     static const uint8_t heads[6] = { 0x00, 0x80, 0x04, 0x20, 0x03, 0x00 };
     for (unsigned channels = 0; channels < 256; channels++)
         if (channels < 1 || channels > MOST)
-            block_refused(G719_CHANNELS, NULL, 0, (uint8_t)channels, 0, 0);
+            block_refused(G719_WRONG_CHANNELS, NULL, 0, (uint8_t)channels, 0, 0);
     block_refused(G719_SHORT_ROOM, NULL, 0, 2, 1599, 640);
     block_refused(G719_SHORT_ROOM, NULL, 0, 2, 1600, 639);
     CHECK(g719_read_block(NULL, 0, 2, NULL, 0, NULL, 0).reply == G719_SHORT_ROOM);
@@ -1067,8 +1067,8 @@ static void unwritten_blocks(void)
     static parted p;
     memset(&p, 0, sizeof p);
     p.records.at[0] = p.records.at[1] = example(0);
-    block_unwritten(G719_CHANNELS, &p, 0, 0, 0, 0);
-    block_unwritten(G719_CHANNELS, &p, 9, MOST * G719_CODES, MOST * G719_TAIL_BYTES, 200);
+    block_unwritten(G719_WRONG_CHANNELS, &p, 0, 0, 0, 0);
+    block_unwritten(G719_WRONG_CHANNELS, &p, 9, MOST * G719_CODES, MOST * G719_TAIL_BYTES, 200);
     block_unwritten(G719_SHORT_ROOM, &p, 2, 1599, 640, 162);
     block_unwritten(G719_SHORT_ROOM, &p, 2, 1600, 639, 162);
     block_unwritten(G719_SHORT_ROOM, &p, 2, 1600, 640, 161);
@@ -1134,7 +1134,7 @@ static void checked_blocks(void)
         CHECK(blocks_checked(zeros, most - 1, channels, 2999, channels == 1 ? G719_DONE : G719_CUT, 2999, most - channels));
         CHECK(blocks_checked(NULL, 0, channels, 0, G719_DONE, 0, 0));
     }
-    CHECK(blocks_checked(zeros, 4, 0, 4, G719_CHANNELS, 0, 0) && blocks_checked(zeros, 9, 9, 1, G719_CHANNELS, 0, 0));
+    CHECK(blocks_checked(zeros, 4, 0, 4, G719_WRONG_CHANNELS, 0, 0) && blocks_checked(zeros, 9, 9, 1, G719_WRONG_CHANNELS, 0, 0));
     static const uint8_t replies[3] = { G719_NORM_OUTSIDE, G719_NO_WORD, G719_PAST_BUDGET };
     static const uint8_t heads[3] = { 0x80, 0x04, 0x20 };
     uint8_t file[164] = { 0x00, 0x01 };
@@ -1171,11 +1171,11 @@ static void refused_extracts(void)
     static const uint8_t zeros[2 * G719_MOST_FRAMES + 1];
     static const uint8_t replies[3] = { G719_NORM_OUTSIDE, G719_NO_WORD, G719_PAST_BUDGET };
     static const uint8_t heads[3] = { 0x80, 0x04, 0x20 };
-    not_taken(G719_CHANNELS, 0, 0, heads, 1, 0, 0, 0);
-    not_taken(G719_CHANNELS, 0, 0, heads, 1, 9, 0, 0);
+    not_taken(G719_WRONG_CHANNELS, 0, 0, heads, 1, 0, 0, 0);
+    not_taken(G719_WRONG_CHANNELS, 0, 0, heads, 1, 9, 0, 0);
     for (uint8_t channels = 1; channels <= MOST; channels++)
-        not_taken(G719_CHANNELS, 0, 0, heads, 1, channels, channels, 0);
-    not_taken(G719_CHANNELS, 0, 0, heads, 1, 2, 255, 0);
+        not_taken(G719_WRONG_CHANNELS, 0, 0, heads, 1, channels, channels, 0);
+    not_taken(G719_WRONG_CHANNELS, 0, 0, heads, 1, 2, 255, 0);
     uint8_t file[83] = { 0x00, 0x01 };
     for (int i = 0; i < 3; i++) {
         frame_with(replies[i], file + 2);
@@ -1216,8 +1216,8 @@ static void refused_joins(void)
     static const uint8_t heads[3] = { 0x80, 0x04, 0x20 };
     static const uint32_t nine[9] = { 1, 1, 1, 1, 1, 1, 1, 1, 1 };
     const uint32_t long_one[2] = { 2, 82 }, short_one[2] = { 2, 2 }, unequal[3] = { 1, 2, 1 };
-    not_joined(refusal(G719_CHANNELS, 0, 0, 0), heads, 3, NULL, 0, 0);
-    not_joined(refusal(G719_CHANNELS, 0, 0, 0), heads, 3, nine, 9, 0);
+    not_joined(refusal(G719_WRONG_CHANNELS, 0, 0, 0), heads, 3, NULL, 0, 0);
+    not_joined(refusal(G719_WRONG_CHANNELS, 0, 0, 0), heads, 3, nine, 9, 0);
     not_joined(refusal(G719_SHORT_ROOM, 0, 0, 0), heads, 3, short_one, 2, 0);
     not_joined(refusal(G719_SHORT_ROOM, 0, 0, 0), heads, 3, (const uint32_t[2]) { UINT32_MAX, UINT32_MAX }, 2, 0);
     uint8_t file[84] = { 0x00, 0x01, 0x02 };
@@ -1231,8 +1231,8 @@ static void refused_joins(void)
         not_joined(refusal((uint8_t)(G719_MARKED + i), 2, 1, 1), file, 4, short_one, 2, 0);
     }
     not_joined(refusal(G719_TOO_MANY, 2, 3000, 3000), zeros, sizeof zeros, (const uint32_t[2]) { 1, 3001 }, 2, 0);
-    not_joined(refusal(G719_CHANNELS, 0, 0, 0), zeros, 3, unequal, 2, 0);
-    not_joined(refusal(G719_CHANNELS, 0, 0, 0), zeros, 3, unequal + 1, 2, 0);
+    not_joined(refusal(G719_WRONG_CHANNELS, 0, 0, 0), zeros, 3, unequal, 2, 0);
+    not_joined(refusal(G719_WRONG_CHANNELS, 0, 0, 0), zeros, 3, unequal + 1, 2, 0);
     not_joined(refusal(G719_SHORT_ROOM, 0, 0, 0), zeros, 4, short_one, 2, 3);
     CHECK(same_copied(g719_join(NULL, 0, (const uint32_t[8]) { 0 }, 8, NULL, 0), G719_DONE, 0, 0, 0, 0));
 }
