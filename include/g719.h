@@ -1,6 +1,7 @@
 /*
  * Stored G.719 speech frames (JT-G719, equal to ITU-T G.719, Annex A): read, written, checked; their bits shared; lattice codes
- * mapped to points and back. Each call is proved to answer exactly what its definition says, on every input (docs/PROMISES.md).
+ * mapped to points and back. Each call is proved to answer exactly what its definition says, on every input (docs/PROMISES.md);
+ * only the last, g719_reply_text, is plain C.
  *
  * HOW TO USE IT
  *
@@ -13,9 +14,10 @@
  *
  * Link libg719.a (x86-64 Linux). It needs memcpy and memset and nothing else. It has no state and takes no heap; it never exits,
  * waits or locks. Any number of threads may call it at once, each with its own lent memory. A call takes less than 8 KiB of stack.
- * Who drops a call's answer is warned where the compiler can warn.
+ * Who drops a call's answer is warned where the compiler can warn. `make install` installs header and archive, and pkg-config then
+ * knows them as g719.
  *
- * ANSWERS. Each call answers with a struct by value whose first field is the reply, a number from 0 to 17. With any reply but 0 all
+ * ANSWERS. Each proved call answers with a struct by value whose first field is the reply, a number from 0 to 17. With any reply but 0 all
  * other fields are 0, save with 14 the next place, in a g719_check its count and place (with 17 they are 0 too), and in a g719_copied
  * count, place and which of a recording that is not sound. Only 0 changes lent memory. If an input is wrong in several ways, the
  * reply that stands first in the call's list is given. Every value of every number has an answer.
