@@ -17,10 +17,10 @@
  * Who drops a call's answer is warned where the compiler can warn. `make install` installs header and archive, and pkg-config then
  * knows them as g719.
  *
- * ANSWERS. Each proved call answers with a struct by value whose first field is the reply, a number from 0 to 17. With any reply but 0 all
- * other fields are 0, save with 14 the next place, in a g719_check its count and place (with 17 they are 0 too), and in a g719_copied
- * count, place and which of a recording that is not sound. Only 0 changes lent memory. If an input is wrong in several ways, the
- * reply that stands first in the call's list is given. Every value of every number has an answer.
+ * ANSWERS. Each proved call answers with a struct by value whose first field is the reply, a number from 0 to 17. With any reply
+ * but 0 all other fields are 0, save with 14 the next place, in a g719_check its count and place (with 17 they are 0 too), and in a
+ * g719_copied count, place and which of a recording that is not sound. Only 0 changes lent memory. If an input is wrong in several
+ * ways, the reply that stands first in the call's list is given. Every value of every number has an answer.
  *
  * LENT MEMORY. A lent slice is two parameters: a pointer and how many elements (not bytes) it has. A const slice is only read. A
  * larger room than needed may be lent; what goes beyond the need is kept as it was.
