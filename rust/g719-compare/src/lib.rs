@@ -1,0 +1,9 @@
+//! The proved library beside the plain implementation: inputs made from
+//! seeds, and both sides as one table of calls.
+#![deny(unsafe_code)]
+
+pub mod calls;
+pub mod cases;
+pub mod convert;
+pub mod library;
+pub mod random;

@@ -1,0 +1,172 @@
+//! Recordings of one channel: checked, and gone through frame by frame.
+#![allow(unsafe_code)]
+
+use crate::refusal::Refusal;
+use crate::{raw, Frame, MOST_FRAMES};
+use core::fmt;
+use core::iter::FusedIterator;
+
+/// Where a recording stops to be sound, or that it is not as long as booked.
+#[derive(Clone, Copy, Debug, PartialEq, Eq, Hash)]
+pub struct Stop {
+    /// Why.
+    pub refusal: Refusal,
+    /// Sound frames before the stop, empty ones among them; of several channels, blocks.
+    pub count: u32,
+    /// The byte at which the refused frame or block begins, or the end: from here ask again.
+    pub place: usize,
+    /// Of [`join`](crate::join): which recording was refused, counted from 0.
+    pub recording: Option<usize>,
+}
+
+impl Stop {
+    /// What a check answers.
+    pub(crate) fn answered(check: raw::Check) -> Result<(), Stop> {
+        let stop = |refusal| Stop {
+            refusal,
+            count: check.count,
+            place: check.place,
+            recording: None,
+        };
+        Refusal::from_number(check.reply).map_or(Ok(()), |refusal| Err(stop(refusal)))
+    }
+}
+
+impl fmt::Display for Stop {
+    fn fmt(&self, formatter: &mut fmt::Formatter<'_>) -> fmt::Result {
+        if let Some(recording) = self.recording {
+            write!(formatter, "recording {recording}: ")?;
+        }
+        write!(
+            formatter,
+            "{} (at byte {}, {} sound)",
+            self.refusal, self.place, self.count
+        )
+    }
+}
+
+impl core::error::Error for Stop {
+    fn source(&self) -> Option<&(dyn core::error::Error + 'static)> {
+        Some(&self.refusal)
+    }
+}
+
+#[cfg(feature = "std")]
+impl From<Stop> for std::io::Error {
+    fn from(stop: Stop) -> Self {
+        std::io::Error::new(std::io::ErrorKind::InvalidData, stop)
+    }
+}
+
+/// Reads every frame of a recording in full and holds their count against the booked one.
+///
+/// The first frame that is not sound stops it, with that frame's refusal; [`TooMany`](Refusal::TooMany) for a
+/// byte after 3,000 sound frames; at the end [`NotAsBooked`](Refusal::NotAsBooked) if there are more or
+/// fewer.
+///
+/// ```
+/// use g719::{check, Refusal};
+/// assert_eq!(check(&[0, 0], 2), Ok(()));
+/// let stop = check(&[0, 0x20], 2).unwrap_err();
+/// assert_eq!((stop.refusal, stop.count, stop.place), (Refusal::Cut, 1, 1));
+/// ```
+pub fn check(src: &[u8], booked: u32) -> Result<(), Stop> {
+    // SAFETY: pointer and count are those of a slice that is only read.
+    Stop::answered(unsafe { raw::g719_check_file(src.as_ptr(), src.len(), booked) })
+}
+
+/// A sound frame where it is stored.
+#[derive(Clone, Debug, PartialEq, Eq)]
+pub struct Stored<'a> {
+    /// Its number, from 0.
+    pub number: u32,
+    /// The byte of the recording at which it begins.
+    pub place: usize,
+    /// Its bytes, prefix byte and body.
+    pub bytes: &'a [u8],
+    /// What it holds; none of an empty frame.
+    pub frame: Option<Frame>,
+}
+
+/// The frames of a recording, in order: see [`frames`].
+#[derive(Clone, Debug)]
+#[must_use = "an iterator reads nothing until it is asked"]
+pub struct Frames<'a> {
+    src: &'a [u8],
+    place: usize,
+    number: u32,
+    stopped: bool,
+}
+
+/// Goes through a recording frame by frame, over its borrowed bytes. Each frame is read in full.
+///
+/// It ends behind the last sound frame, or gives one [`Stop`] where [`check`] would stop, and ends. Whether
+/// all frames are there only the booked count tells.
+///
+/// ```
+/// use g719::{frames, Refusal};
+/// let mut found = frames(&[0, 0, 0x80]);
+/// assert_eq!(found.next().unwrap().unwrap().place, 0);
+/// assert_eq!(found.next().unwrap().unwrap().frame, None);
+/// let stop = found.next().unwrap().unwrap_err();
+/// assert_eq!((stop.refusal, stop.count, stop.place), (Refusal::Marked, 2, 2));
+/// assert!(found.next().is_none());
+/// ```
+pub fn frames(src: &[u8]) -> Frames<'_> {
+    Frames {
+        src,
+        place: 0,
+        number: 0,
+        stopped: false,
+    }
+}
+
+impl<'a> Frames<'a> {
+    /// The byte behind the frames given so far.
+    #[must_use]
+    pub fn place(&self) -> usize {
+        self.place
+    }
+
+    fn stop(&mut self, refusal: Refusal) -> Stop {
+        self.stopped = true;
+        Stop {
+            refusal,
+            count: self.number,
+            place: self.place,
+            recording: None,
+        }
+    }
+
+    /// The frame at the start of `rest`, which has a byte.
+    fn read(&mut self, rest: &'a [u8]) -> Result<Stored<'a>, Stop> {
+        if self.number == MOST_FRAMES {
+            return Err(self.stop(Refusal::TooMany));
+        }
+        let frame = Frame::read(rest).map_err(|refusal| self.stop(refusal))?;
+        let size = frame.as_ref().map_or(1, Frame::size);
+        let stored = Stored {
+            number: self.number,
+            place: self.place,
+            bytes: &rest[..size],
+            frame,
+        };
+        self.number += 1;
+        self.place += size;
+        Ok(stored)
+    }
+}
+
+impl<'a> Iterator for Frames<'a> {
+    type Item = Result<Stored<'a>, Stop>;
+
+    fn next(&mut self) -> Option<Self::Item> {
+        let rest = &self.src[self.place..];
+        if self.stopped || rest.is_empty() {
+            return None;
+        }
+        Some(self.read(rest))
+    }
+}
+
+impl FusedIterator for Frames<'_> {}
