@@ -74,10 +74,13 @@ impl Arguments {
         found.map(|(_, value)| value.as_os_str())
     }
 
+    fn missing(&self, name: &str) -> Failure {
+        self.wrong(&format!("{name} is missing"))
+    }
+
     /// The value of an option that must be there.
     pub fn needed(&self, name: &str) -> Result<&OsStr, Failure> {
-        self.value(name)
-            .ok_or_else(|| self.wrong(&format!("{name} is missing")))
+        self.value(name).ok_or_else(|| self.missing(name))
     }
 
     /// A number in decimal digits alone, if the option is there.
@@ -94,9 +97,7 @@ impl Arguments {
 
     /// A number that must be there.
     pub fn needed_number<T: FromStr>(&self, name: &str) -> Result<T, Failure> {
-        self.needed(name)?;
-        self.number(name)
-            .and_then(|number| number.ok_or_else(|| self.wrong(&format!("{name} is missing"))))
+        self.number(name)?.ok_or_else(|| self.missing(name))
     }
 
     /// The one file of a command that takes one.

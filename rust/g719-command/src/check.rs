@@ -1,7 +1,7 @@
 //! g719 check: a line a file.
 
 use crate::{arguments, complain, files, help, words, Failure, Verdict};
-use g719::{Refusal, Stop, FRAME_BYTES, MOST_FRAMES};
+use g719::{Refusal, Stop, FRAME_BYTES, MOST_CHANNELS, MOST_FRAMES};
 use std::ffi::{OsStr, OsString};
 
 /// What a recording is held against.
@@ -24,7 +24,7 @@ pub fn run(given: &[OsString]) -> Result<Verdict, Failure> {
         booked: arguments.needed_number("--booked")?,
         channels: arguments.number("--channels")?,
     };
-    if !(1..=8).contains(&booking.channels.unwrap_or(1)) {
+    if !(1..=MOST_CHANNELS).contains(&booking.channels.unwrap_or(1).into()) {
         return Err(arguments.wrong("--channels is 1 to 8"));
     }
     if arguments.files.is_empty() {

@@ -25,6 +25,7 @@ const START: [usize; BANDS + 1] = {
 };
 
 /// The places of a band.
+#[inline]
 pub fn places(band: usize) -> std::ops::Range<usize> {
     START[band]..START[band + 1]
 }

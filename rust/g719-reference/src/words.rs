@@ -102,6 +102,7 @@ pub(crate) fn difference_words() -> (&'static [Word], &'static Lookup) {
 }
 
 /// The words of a rate; none outside 2–5.
+#[inline]
 pub fn column(rate: u8) -> Option<(&'static [Word], &'static Lookup)> {
     match rate {
         2 => Some((&COLUMN_2, &LOOKUP_20[0])),
@@ -128,6 +129,7 @@ pub fn put_word(bits: &mut BitWriter, word: Word) {
 }
 
 /// Bits of a word.
+#[inline]
 pub fn word_bits(word: Word) -> u32 {
     u32::from(word.length)
 }
