@@ -1,6 +1,6 @@
 //! The proved library beside the plain implementation: inputs made from
 //! seeds, and both sides as one table of calls.
-#![deny(unsafe_code)]
+#![forbid(unsafe_code)]
 
 pub mod calls;
 pub mod cases;

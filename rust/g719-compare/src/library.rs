@@ -1,9 +1,8 @@
 //! The proved library, called through its C interface. Each call has the
 //! arguments and the answer of its namesake in `g719_reference`.
-#![allow(unsafe_code)]
 
 use crate::convert::{record_in_c, records_in_c, Plain};
-use g719::raw;
+use g719::raw::{self, slices};
 use g719_reference::types::{
     Block, Byte, Check, Choice, Copied, Index, Norms, Parts, Point, Prefix, Reading, Record, Records, Row,
     Shares, Weights, Writing, BANDS,
@@ -11,8 +10,7 @@ use g719_reference::types::{
 
 /// Reads the prefix byte at the start of `src`.
 pub fn read_prefix(src: &[u8]) -> Prefix {
-    // SAFETY: pointer and count are those of a slice that is only read.
-    unsafe { raw::g719_read_prefix(src.as_ptr(), src.len()) }.plain()
+    slices::read_prefix(src).plain()
 }
 
 /// The prefix byte of a mode.
@@ -23,50 +21,23 @@ pub fn write_prefix(mode: u8) -> Byte {
 /// Reads the frame at the start of `src`: its codes into the first 800
 /// numbers of `codes`, its tail into the first 320 bytes of `tail`.
 pub fn read(src: &[u8], codes: &mut [u16], tail: &mut [u8]) -> Reading {
-    // SAFETY: pointers and counts are those of slices that do not overlap;
-    // `src` is only read.
-    let reading = unsafe {
-        raw::g719_read(
-            src.as_ptr(),
-            src.len(),
-            codes.as_mut_ptr(),
-            codes.len(),
-            tail.as_mut_ptr(),
-            tail.len(),
-        )
-    };
-    reading.plain()
+    slices::read(src, codes, tail).plain()
 }
 
 /// Writes a frame from the first 800 numbers of `codes` and the first 320
 /// bytes of `tail`.
 pub fn write(record: &Record, codes: &[u16], tail: &[u8], out: &mut [u8]) -> Writing {
-    // SAFETY: pointers and counts are those of slices; `out`, the only one
-    // that is written, overlaps neither of the others.
-    let writing = unsafe {
-        raw::g719_write(
-            record_in_c(record),
-            codes.as_ptr(),
-            codes.len(),
-            tail.as_ptr(),
-            tail.len(),
-            out.as_mut_ptr(),
-            out.len(),
-        )
-    };
-    writing.plain()
+    slices::write(&record_in_c(record), codes, tail, out).plain()
 }
 
 /// How the bits of a record's frame part; its noise and tail are not read.
 pub fn layout(record: &Record, codes: &[u16]) -> Parts {
-    // SAFETY: pointer and count are those of a slice that is only read.
-    unsafe { raw::g719_layout(record_in_c(record), codes.as_ptr(), codes.len()) }.plain()
+    slices::layout(&record_in_c(record), codes).plain()
 }
 
 /// Writes an empty frame.
 pub fn write_empty(out: &mut [u8]) -> Writing {
-    // SAFETY: pointer and count are those of a slice that is lent for change.
-    unsafe { raw::g719_write_empty(out.as_mut_ptr(), out.len()) }.plain()
+    slices::write_empty(out).plain()
 }
 
 /// Whether the words of the differences cost less than fixed codes.
@@ -76,8 +47,7 @@ pub fn choose_flag_n(transient: bool, norms: &[u8; BANDS]) -> Choice {
 
 /// Whether the words of the codes cost less than fixed codes.
 pub fn choose_flag_c(record: &Record, codes: &[u16]) -> Choice {
-    // SAFETY: pointer and count are those of a slice that is only read.
-    unsafe { raw::g719_choose_flag_c(record_in_c(record), codes.as_ptr(), codes.len()) }.plain()
+    slices::choose_flag_c(&record_in_c(record), codes).plain()
 }
 
 /// The norms, lowered where a frame could not hold them.
@@ -118,87 +88,34 @@ pub fn codebook_index(rate: u8, point: &[i16; 8]) -> Row {
 /// Reads every frame of a file in full and holds their count against the
 /// booking.
 pub fn check_file(src: &[u8], booking: u32) -> Check {
-    // SAFETY: pointer and count are those of a slice that is only read.
-    unsafe { raw::g719_check_file(src.as_ptr(), src.len(), booking) }.plain()
+    slices::check_file(src, booking).plain()
 }
 
 /// Reads the block at the start of `src`: the codes of channel c from number
 /// 800 c of `codes` on, its tail from byte 320 c of `tails` on.
 pub fn read_block(src: &[u8], channels: u8, codes: &mut [u16], tails: &mut [u8]) -> Block {
-    // SAFETY: pointers and counts are those of slices that do not overlap;
-    // `src` is only read.
-    let block = unsafe {
-        raw::g719_read_block(
-            src.as_ptr(),
-            src.len(),
-            channels,
-            codes.as_mut_ptr(),
-            codes.len(),
-            tails.as_mut_ptr(),
-            tails.len(),
-        )
-    };
-    block.plain()
+    slices::read_block(src, channels, codes, tails).plain()
 }
 
 /// Writes a block from the codes at 800 c and the tail at 320 c of each
 /// channel c that is not empty.
 pub fn write_block(records: &Records, channels: u8, codes: &[u16], tails: &[u8], out: &mut [u8]) -> Writing {
-    // SAFETY: pointers and counts are those of slices; `out`, the only one
-    // that is written, overlaps neither of the others.
-    let writing = unsafe {
-        raw::g719_write_block(
-            records_in_c(records),
-            channels,
-            codes.as_ptr(),
-            codes.len(),
-            tails.as_ptr(),
-            tails.len(),
-            out.as_mut_ptr(),
-            out.len(),
-        )
-    };
-    writing.plain()
+    slices::write_block(&records_in_c(records), channels, codes, tails, out).plain()
 }
 
 /// Reads every block of a file in full and holds their count against the
 /// booking.
 pub fn check_blocks(src: &[u8], channels: u8, booking: u32) -> Check {
-    // SAFETY: pointer and count are those of a slice that is only read.
-    unsafe { raw::g719_check_blocks(src.as_ptr(), src.len(), channels, booking) }.plain()
+    slices::check_blocks(src, channels, booking).plain()
 }
 
 /// Writes the frames of one channel, counted from 0, as stored.
 pub fn extract(src: &[u8], channels: u8, channel: u8, out: &mut [u8]) -> Copied {
-    // SAFETY: pointers and counts are those of slices that do not overlap;
-    // `src` is only read.
-    let copied = unsafe {
-        raw::g719_extract(
-            src.as_ptr(),
-            src.len(),
-            channels,
-            channel,
-            out.as_mut_ptr(),
-            out.len(),
-        )
-    };
-    copied.plain()
+    slices::extract(src, channels, channel, out).plain()
 }
 
 /// Writes a block of the frames of all recordings, as stored, for each of
 /// their frames. The recordings stand one behind the other in `src`.
 pub fn join(src: &[u8], lengths: &[u32], out: &mut [u8]) -> Copied {
-    // SAFETY: pointers and counts are those of slices; `out`, the only one
-    // that is written, overlaps neither of the others.
-    let copied = unsafe {
-        raw::g719_join(
-            src.as_ptr(),
-            src.len(),
-            lengths.as_ptr(),
-            lengths.len(),
-            out.as_mut_ptr(),
-            out.len(),
-        )
-    };
-    copied.plain()
+    slices::join(src, lengths, out).plain()
 }

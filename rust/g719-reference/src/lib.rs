@@ -36,8 +36,8 @@ pub use weights::weigh;
 pub use writer::{choose_flag_c, layout, write, write_empty};
 
 /// What frames are put together from, for who makes frames that no call
-/// would write. Nothing else of the inside is reachable. What a generator
-/// asks for at every place is inlined, which makes it three times as fast.
+/// would write. Nothing else of the inside is reachable. What is asked for at
+/// every place of a frame is marked inline, for calls from other packages.
 #[doc(hidden)]
 pub mod pieces {
     pub use crate::bits::BitWriter;

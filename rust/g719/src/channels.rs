@@ -1,10 +1,10 @@
 //! Several channels in one recording: for each 20 ms a block of one stored frame a channel, in order (A.4.2).
 //! The recording does not say how many channels it has, 1 to 8: the booking does. A channel's number counts
 //! from 0.
-#![allow(unsafe_code)]
 
+use crate::raw::{self, slices};
 use crate::refusal::{answered, Refusal};
-use crate::{raw, Record, Stop, BANDS, MOST_CHANNELS};
+use crate::{Record, Stop, BANDS, MOST_CHANNELS};
 
 /// A block that was read.
 #[derive(Clone, Debug, PartialEq, Eq, Hash)]
@@ -55,18 +55,7 @@ pub struct Copied {
 /// # Ok::<(), g719::Refusal>(())
 /// ```
 pub fn read_block(src: &[u8], channels: u8, codes: &mut [u16], tails: &mut [u8]) -> Result<Block, Refusal> {
-    // SAFETY: pointers and counts are those of slices that do not overlap; `src` is only read.
-    let block = unsafe {
-        raw::g719_read_block(
-            src.as_ptr(),
-            src.len(),
-            channels,
-            codes.as_mut_ptr(),
-            codes.len(),
-            tails.as_mut_ptr(),
-            tails.len(),
-        )
-    };
+    let block = slices::read_block(src, channels, codes, tails);
     answered(block.reply)?;
     let channels = usize::from(channels);
     let mut records = [None; MOST_CHANNELS];
@@ -115,20 +104,7 @@ pub fn write_block(
             None => taken.empty[channel] = 1,
         }
     }
-    // SAFETY: pointers and counts are those of slices; `out`, the only one that is written, overlaps neither
-    // of the others.
-    let writing = unsafe {
-        raw::g719_write_block(
-            taken,
-            channels,
-            codes.as_ptr(),
-            codes.len(),
-            tails.as_ptr(),
-            tails.len(),
-            out.as_mut_ptr(),
-            out.len(),
-        )
-    };
+    let writing = slices::write_block(&taken, channels, codes, tails, out);
     answered(writing.reply)?;
     Ok(writing.next)
 }
@@ -139,8 +115,7 @@ pub fn write_block(
 /// [`WrongChannels`](Refusal::WrongChannels) for a channel count outside 1 to 8; [`Cut`](Refusal::Cut) also
 /// for a block that lacks a frame.
 pub fn check_blocks(src: &[u8], channels: u8, booked: u32) -> Result<(), Stop> {
-    // SAFETY: pointer and count are those of a slice that is only read.
-    Stop::answered(unsafe { raw::g719_check_blocks(src.as_ptr(), src.len(), channels, booked) })
+    Stop::answered(slices::check_blocks(src, channels, booked))
 }
 
 /// What a copying call answers.
@@ -166,17 +141,7 @@ fn copied(copied: raw::Copied) -> Result<Copied, Stop> {
 /// Refused, in this order: [`WrongChannels`](Refusal::WrongChannels), as [`check_blocks`] but for the booked
 /// count, [`ShortRoom`](Refusal::ShortRoom).
 pub fn extract(src: &[u8], channels: u8, channel: u8, out: &mut [u8]) -> Result<Copied, Stop> {
-    // SAFETY: pointers and counts are those of slices that do not overlap; `src` is only read.
-    copied(unsafe {
-        raw::g719_extract(
-            src.as_ptr(),
-            src.len(),
-            channels,
-            channel,
-            out.as_mut_ptr(),
-            out.len(),
-        )
-    })
+    copied(slices::extract(src, channels, channel, out))
 }
 
 /// Joins recordings of one channel and of equal frame count, frames as stored. They stand one behind the
@@ -200,16 +165,5 @@ pub fn extract(src: &[u8], channels: u8, channel: u8, out: &mut [u8]) -> Result<
 /// # Ok::<(), g719::Stop>(())
 /// ```
 pub fn join(src: &[u8], lengths: &[u32], out: &mut [u8]) -> Result<Copied, Stop> {
-    // SAFETY: pointers and counts are those of slices; `out`, the only one that is written, overlaps neither
-    // of the others.
-    copied(unsafe {
-        raw::g719_join(
-            src.as_ptr(),
-            src.len(),
-            lengths.as_ptr(),
-            lengths.len(),
-            out.as_mut_ptr(),
-            out.len(),
-        )
-    })
+    copied(slices::join(src, lengths, out))
 }

@@ -1,8 +1,8 @@
 //! Stored frames: the record, read and written.
-#![allow(unsafe_code)]
 
+use crate::raw::{self, slices};
 use crate::refusal::{answered, Refusal};
-use crate::{choose_flag_n, raw, Mode, BANDS, CODES, TAIL_BYTES};
+use crate::{choose_flag_n, Mode, BANDS, CODES, TAIL_BYTES};
 
 /// What a frame holds beside its codes and its tail.
 #[derive(Clone, Copy, Debug, PartialEq, Eq, Hash)]
@@ -74,18 +74,7 @@ impl Record {
     /// [`Reserved`](Refusal::Reserved), [`Cut`](Refusal::Cut), [`NormOutside`](Refusal::NormOutside), then
     /// [`NoWord`](Refusal::NoWord) or [`PastBudget`](Refusal::PastBudget), whichever is met first.
     pub fn read(src: &[u8], codes: &mut [u16], tail: &mut [u8]) -> Result<Option<Record>, Refusal> {
-        // SAFETY: pointers and counts are those of slices that do not overlap; `src` is only read.
-        let reading = unsafe {
-            raw::g719_read(
-                src.as_ptr(),
-                src.len(),
-                codes.as_mut_ptr(),
-                codes.len(),
-                tail.as_mut_ptr(),
-                tail.len(),
-            )
-        };
-        Record::answered(&reading)
+        Record::answered(&slices::read(src, codes, tail))
     }
 
     /// Writes a stored frame from the first 800 codes and the first 320 tail bytes; answers the bytes
@@ -95,19 +84,7 @@ impl Record {
     /// [`FarApart`](Refusal::FarApart), [`WideCode`](Refusal::WideCode), [`PastBudget`](Refusal::PastBudget),
     /// [`WrongTail`](Refusal::WrongTail). Then `out` is as it was.
     pub fn write(&self, codes: &[u16], tail: &[u8], out: &mut [u8]) -> Result<usize, Refusal> {
-        // SAFETY: pointers and counts are those of slices; `out`, the only one that is written, overlaps
-        // neither of the others.
-        let writing = unsafe {
-            raw::g719_write(
-                self.to_raw(),
-                codes.as_ptr(),
-                codes.len(),
-                tail.as_ptr(),
-                tail.len(),
-                out.as_mut_ptr(),
-                out.len(),
-            )
-        };
+        let writing = slices::write(&self.to_raw(), codes, tail, out);
         answered(writing.reply)?;
         Ok(writing.next)
     }
@@ -117,8 +94,7 @@ impl Record {
     ///
     /// Refused as [`Record::write`] is, save for `out`, noise and tail.
     pub fn layout(&self, codes: &[u16]) -> Result<Layout, Refusal> {
-        // SAFETY: pointer and count are those of a slice that is only read.
-        let parts = unsafe { raw::g719_layout(self.to_raw(), codes.as_ptr(), codes.len()) };
+        let parts = slices::layout(&self.to_raw(), codes);
         answered(parts.reply)?;
         Ok(Layout {
             budget: parts.budget,
@@ -132,8 +108,7 @@ impl Record {
     ///
     /// Noise, tail bits and the record's own FlagC are not looked at.
     pub fn choose_flag_c(&self, codes: &[u16]) -> Result<bool, Refusal> {
-        // SAFETY: pointer and count are those of a slice that is only read.
-        let choice = unsafe { raw::g719_choose_flag_c(self.to_raw(), codes.as_ptr(), codes.len()) };
+        let choice = slices::choose_flag_c(&self.to_raw(), codes);
         answered(choice.reply)?;
         Ok(choice.flag != 0)
     }
@@ -243,8 +218,7 @@ impl Frame {
 
 /// Writes an empty frame, one byte; answers 1. Refused: [`ShortRoom`](Refusal::ShortRoom).
 pub fn write_empty(out: &mut [u8]) -> Result<usize, Refusal> {
-    // SAFETY: pointer and count are those of a slice that is lent for change.
-    let writing = unsafe { raw::g719_write_empty(out.as_mut_ptr(), out.len()) };
+    let writing = slices::write_empty(out);
     answered(writing.reply)?;
     Ok(writing.next)
 }

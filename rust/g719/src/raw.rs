@@ -1,9 +1,12 @@
-//! The C interface line by line, as include/g719.h has it: structs, names of replies and calls. A flag is a
-//! number here; any number but 0 that goes in is true, and what comes out is 0 or 1.
+//! The C interface line by line, as include/g719.h has it: structs, names of replies and calls; [`slices`] has
+//! the calls that take pointers over slices. A flag is a number here; any number but 0 that goes in is true, and
+//! what comes out is 0 or 1.
 //!
-//! The safe calls of this crate are made from these. They are public for who must pass what the safe ones
-//! cannot say, such as a mode of 20.
+//! The safe calls of this crate are made from these. They are public for who must pass what the safe ones cannot
+//! say, such as a mode of 20.
 #![allow(unsafe_code)]
+
+pub mod slices;
 
 use crate::{BANDS, MOST_CHANNELS, POINT_PLACES};
 

@@ -1,8 +1,8 @@
 //! Recordings of one channel: checked, and gone through frame by frame.
-#![allow(unsafe_code)]
 
+use crate::raw::{self, slices};
 use crate::refusal::Refusal;
-use crate::{raw, Frame, MOST_FRAMES};
+use crate::{Frame, MOST_FRAMES};
 use core::fmt;
 use core::iter::FusedIterator;
 
@@ -71,8 +71,7 @@ impl From<Stop> for std::io::Error {
 /// assert_eq!((stop.refusal, stop.count, stop.place), (Refusal::Cut, 1, 1));
 /// ```
 pub fn check(src: &[u8], booked: u32) -> Result<(), Stop> {
-    // SAFETY: pointer and count are those of a slice that is only read.
-    Stop::answered(unsafe { raw::g719_check_file(src.as_ptr(), src.len(), booked) })
+    Stop::answered(slices::check_file(src, booked))
 }
 
 /// A sound frame where it is stored.

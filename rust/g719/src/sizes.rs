@@ -1,7 +1,6 @@
 //! Modes and lengths: two numbers for one size, and neither stands for the other (Tables 22, A.2).
-#![allow(unsafe_code)]
 
-use crate::raw;
+use crate::raw::{self, slices};
 use crate::refusal::{answered, Refusal};
 use crate::MOST_MODE;
 
@@ -129,8 +128,7 @@ impl Length {
 /// # Ok::<(), Refusal>(())
 /// ```
 pub fn read_prefix(src: &[u8]) -> Result<Option<Length>, Refusal> {
-    // SAFETY: pointer and count are those of a slice that is only read.
-    let prefix = unsafe { raw::g719_read_prefix(src.as_ptr(), src.len()) };
+    let prefix = slices::read_prefix(src);
     answered(prefix.reply)?;
     Ok(Length::new(prefix.length))
 }
