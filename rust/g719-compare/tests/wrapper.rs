@@ -277,6 +277,31 @@ fn channels_are_parted_and_joined() {
         let checked = g719::check_blocks(&case.src, case.channels, case.booking);
         assert_eq!(checked, stopped(plain), "seed {seed}");
 
+        let (mut count, mut bytes, mut end) = (0, Vec::new(), Ok(()));
+        for stored in g719::blocks(&case.src, case.channels) {
+            assert_eq!(end, Ok(()), "seed {seed}: nothing comes behind a stop");
+            match stored {
+                Ok(block) => {
+                    assert_eq!((block.number, block.place), (count, bytes.len()), "seed {seed}");
+                    assert_eq!(
+                        block.frames().filter(Result::is_ok).count(),
+                        case.channels.into(),
+                        "seed {seed}"
+                    );
+                    bytes.extend_from_slice(block.bytes);
+                    count += 1;
+                }
+                Err(stop) => end = Err(stop),
+            }
+        }
+        let plain = reference::check_blocks(&case.src, case.channels, count);
+        assert_eq!(end, stopped(plain), "seed {seed}");
+        assert_eq!(
+            (count, bytes.as_slice()),
+            (plain.count, &case.src[..plain.place]),
+            "seed {seed}"
+        );
+
         let case = cases::extract_case(seed);
         let (mut out, mut plain_out) = (case.out.clone(), case.out);
         let taken = g719::extract(&case.src, case.channels, case.channel, &mut out);

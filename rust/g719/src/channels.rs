@@ -4,7 +4,9 @@
 
 use crate::raw::{self, slices};
 use crate::refusal::{answered, Refusal};
-use crate::{Record, Stop, BANDS, MOST_CHANNELS};
+use crate::walk::{Unit, Walk};
+use crate::{frames, Frame, Frames, Record, Stop, BANDS, MOST_CHANNELS};
+use core::iter::FusedIterator;
 
 /// A block that was read.
 #[derive(Clone, Debug, PartialEq, Eq, Hash)]
@@ -117,6 +119,89 @@ pub fn write_block(
 pub fn check_blocks(src: &[u8], channels: u8, booked: u32) -> Result<(), Stop> {
     Stop::answered(slices::check_blocks(src, channels, booked))
 }
+
+/// A sound block where it is stored.
+#[derive(Clone, Copy, Debug, PartialEq, Eq, Hash)]
+pub struct StoredBlock<'a> {
+    /// Its number, from 0.
+    pub number: u32,
+    /// The byte of the recording at which it begins.
+    pub place: usize,
+    /// Its bytes: the frames of all channels, in order.
+    pub bytes: &'a [u8],
+}
+
+impl<'a> StoredBlock<'a> {
+    /// Its frames, channel by channel: their numbers are those of the channels, their places count from the
+    /// block's start.
+    pub fn frames(&self) -> Frames<'a> {
+        frames(self.bytes)
+    }
+}
+
+/// The blocks of a recording of several channels, in order: see [`blocks`].
+#[derive(Clone, Debug)]
+#[must_use = "an iterator reads nothing until it is asked"]
+pub struct Blocks<'a> {
+    walk: Walk<'a>,
+    channels: u8,
+}
+
+/// Goes through a recording of several channels block by block, over its borrowed bytes. Each frame is read in
+/// full.
+///
+/// It ends behind the last sound block, or gives one [`Stop`] where [`check_blocks`] would stop, and ends.
+///
+/// ```
+/// use g719::{blocks, Refusal};
+/// let mut found = blocks(&[0, 0, 0], 2); // a block of two empty frames, and one that lacks a frame
+/// let block = found.next().unwrap()?;
+/// assert_eq!((block.number, block.place, block.frames().count()), (0, 0, 2));
+/// let stop = found.next().unwrap().unwrap_err();
+/// assert_eq!((stop.refusal, stop.count, stop.place), (Refusal::Cut, 1, 2));
+/// assert!(found.next().is_none());
+/// # Ok::<(), g719::Stop>(())
+/// ```
+pub fn blocks(src: &[u8], channels: u8) -> Blocks<'_> {
+    Blocks {
+        walk: Walk::new(src),
+        channels,
+    }
+}
+
+/// Bytes of the block at the start of `rest`, which has a byte.
+fn block_size(rest: &[u8], channels: u8) -> Result<usize, Refusal> {
+    let mut size = 0;
+    for _ in 0..channels {
+        let frame = match Frame::read(&rest[size..]) {
+            // the block has begun, so a frame is missing in it
+            Err(Refusal::NoByte) => return Err(Refusal::Cut),
+            read => read?,
+        };
+        size += frame.map_or(1, |frame| frame.size());
+    }
+    Ok(size)
+}
+
+impl<'a> Iterator for Blocks<'a> {
+    type Item = Result<StoredBlock<'a>, Stop>;
+
+    fn next(&mut self) -> Option<Self::Item> {
+        let channels = self.channels;
+        if !(1..=MOST_CHANNELS).contains(&channels.into()) {
+            return self.walk.refuse(Refusal::WrongChannels);
+        }
+        let read = |rest: &[u8]| Ok((block_size(rest, channels)?, ()));
+        let stored = |(unit, ()): (Unit<'a>, ())| StoredBlock {
+            number: unit.number,
+            place: unit.place,
+            bytes: unit.bytes,
+        };
+        Some(self.walk.next(read)?.map(stored))
+    }
+}
+
+impl FusedIterator for Blocks<'_> {}
 
 /// What a copying call answers.
 fn copied(copied: raw::Copied) -> Result<Copied, Stop> {

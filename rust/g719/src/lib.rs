@@ -65,8 +65,11 @@ pub mod raw;
 mod recording;
 mod refusal;
 mod sizes;
+mod walk;
 
-pub use channels::{check_blocks, extract, join, read_block, write_block, Block, Copied};
+pub use channels::{
+    blocks, check_blocks, extract, join, read_block, write_block, Block, Blocks, Copied, StoredBlock,
+};
 pub use frame::{write_empty, Frame, Layout, Record};
 pub use norms::{allot, choose_flag_n, legalise, weigh, Shares, Weights};
 pub use points::{codebook_index, codebook_point, lattice_index, lattice_point};

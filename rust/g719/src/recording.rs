@@ -2,7 +2,8 @@
 
 use crate::raw::{self, slices};
 use crate::refusal::Refusal;
-use crate::{Frame, MOST_FRAMES};
+use crate::walk::{Unit, Walk};
+use crate::Frame;
 use core::fmt;
 use core::iter::FusedIterator;
 
@@ -90,81 +91,42 @@ pub struct Stored<'a> {
 /// The frames of a recording, in order: see [`frames`].
 #[derive(Clone, Debug)]
 #[must_use = "an iterator reads nothing until it is asked"]
-pub struct Frames<'a> {
-    src: &'a [u8],
-    place: usize,
-    number: u32,
-    stopped: bool,
-}
+pub struct Frames<'a>(Walk<'a>);
 
 /// Goes through a recording frame by frame, over its borrowed bytes. Each frame is read in full.
 ///
-/// It ends behind the last sound frame, or gives one [`Stop`] where [`check`] would stop, and ends. Whether
-/// all frames are there only the booked count tells.
+/// It ends behind the last sound frame, or gives one [`Stop`] where [`check`] would stop, and ends. Whether all
+/// frames are there only the booked count tells.
 ///
 /// ```
 /// use g719::{frames, Refusal};
 /// let mut found = frames(&[0, 0, 0x80]);
-/// assert_eq!(found.next().unwrap().unwrap().place, 0);
-/// assert_eq!(found.next().unwrap().unwrap().frame, None);
+/// assert_eq!(found.next().unwrap()?.place, 0);
+/// assert_eq!(found.next().unwrap()?.frame, None);
 /// let stop = found.next().unwrap().unwrap_err();
 /// assert_eq!((stop.refusal, stop.count, stop.place), (Refusal::Marked, 2, 2));
 /// assert!(found.next().is_none());
+/// # Ok::<(), g719::Stop>(())
 /// ```
 pub fn frames(src: &[u8]) -> Frames<'_> {
-    Frames {
-        src,
-        place: 0,
-        number: 0,
-        stopped: false,
-    }
-}
-
-impl<'a> Frames<'a> {
-    /// The byte behind the frames given so far.
-    #[must_use]
-    pub fn place(&self) -> usize {
-        self.place
-    }
-
-    fn stop(&mut self, refusal: Refusal) -> Stop {
-        self.stopped = true;
-        Stop {
-            refusal,
-            count: self.number,
-            place: self.place,
-            recording: None,
-        }
-    }
-
-    /// The frame at the start of `rest`, which has a byte.
-    fn read(&mut self, rest: &'a [u8]) -> Result<Stored<'a>, Stop> {
-        if self.number == MOST_FRAMES {
-            return Err(self.stop(Refusal::TooMany));
-        }
-        let frame = Frame::read(rest).map_err(|refusal| self.stop(refusal))?;
-        let size = frame.as_ref().map_or(1, Frame::size);
-        let stored = Stored {
-            number: self.number,
-            place: self.place,
-            bytes: &rest[..size],
-            frame,
-        };
-        self.number += 1;
-        self.place += size;
-        Ok(stored)
-    }
+    Frames(Walk::new(src))
 }
 
 impl<'a> Iterator for Frames<'a> {
     type Item = Result<Stored<'a>, Stop>;
 
     fn next(&mut self) -> Option<Self::Item> {
-        let rest = &self.src[self.place..];
-        if self.stopped || rest.is_empty() {
-            return None;
-        }
-        Some(self.read(rest))
+        let read = |rest: &[u8]| {
+            let frame = Frame::read(rest)?;
+            Ok((frame.as_ref().map_or(1, Frame::size), frame))
+        };
+        let stored = |(unit, frame): (Unit<'a>, _)| Stored {
+            number: unit.number,
+            place: unit.place,
+            bytes: unit.bytes,
+            frame,
+        };
+        Some(self.0.next(read)?.map(stored))
     }
 }
 
