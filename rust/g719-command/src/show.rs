@@ -2,22 +2,12 @@
 
 use crate::check::room;
 use crate::{arguments, files, help, words, Failure, Verdict};
-use g719::{Frame, Refusal, Stored, BANDS};
+use g719::{band_places, Frame, Refusal, Stored, BANDS};
 use std::ffi::OsString;
 
 /// Bits of the four flags, and of the noise level of a stationary frame.
 const FLAG_BITS: usize = 4;
 const NOISE_BITS: usize = 2;
-
-/// Coefficients of a band.
-const fn coefficients(band: usize) -> usize {
-    match band {
-        0..=15 => 8,
-        16..=23 => 16,
-        24..=35 => 24,
-        _ => 32,
-    }
-}
 
 pub fn run(given: &[OsString]) -> Result<Verdict, Failure> {
     let Some(arguments) = arguments::take(given, help::SHOW, &["--frame"])? else {
@@ -132,7 +122,7 @@ fn bands(frame: &Frame) -> Result<String, Refusal> {
     let mut text = String::from("band  norm  loudness  score in 1/16  rate  coefficients  bits granted\n");
     let mut granted = 0;
     for band in 0..BANDS {
-        let (norm, rate, length) = (record.norms[band], rates[band], coefficients(band));
+        let (norm, rate, length) = (record.norms[band], rates[band], band_places(band).len());
         let loudness = 34 - i16::from(norm);
         let score = scores[band];
         let bits = usize::from(rate) * length;

@@ -5,7 +5,7 @@ use g719::{Copied, Frame, Layout, Mode, Record, Refusal, Shares, Stop, Weights};
 use g719_compare::cases;
 use g719_reference as reference;
 use g719_reference::reply;
-use g719_reference::types::{self, CODES, TAIL_BYTES};
+use g719_reference::types::{self, BANDS, CODES, TAIL_BYTES};
 
 /// Seeds of each call, and of the calls over recordings.
 const SEEDS: u64 = 8_000;
@@ -160,6 +160,19 @@ fn points_are_mapped() {
             reference::codebook_point(1, index.into()).at
         );
     }
+}
+
+#[test]
+fn bands_have_their_places() {
+    for band in 0..BANDS {
+        assert_eq!(
+            g719::band_places(band),
+            reference::pieces::places(band),
+            "band {band}"
+        );
+    }
+    assert_eq!(g719::band_places(BANDS - 1).end, CODES);
+    assert!(g719::band_places(BANDS).is_empty() && g719::band_places(usize::MAX).is_empty());
 }
 
 /// What a check answers, as the wrapper does.

@@ -2,7 +2,7 @@
 //! that one can draw and show. It is also how frames are written: norms made legal, flags chosen, codes of
 //! the rates, the tail's bits counted.
 
-use g719::{legalise, Frame, Mode, Refusal, FRAME_BYTES};
+use g719::{band_places, legalise, Frame, Mode, Refusal, FRAME_BYTES};
 use std::io::{self, Write};
 use std::process::ExitCode;
 
@@ -12,16 +12,6 @@ const COME: usize = 40;
 
 /// A syllable in frames; every fourth one hisses, the others are vowels.
 const SYLLABLE: i32 = 11;
-
-/// Coefficients of a band.
-const fn coefficients(band: usize) -> usize {
-    match band {
-        0..=15 => 8,
-        16..=23 => 16,
-        24..=35 => 24,
-        _ => 32,
-    }
-}
 
 /// A wave of straight lines from 0 to `height` and back.
 fn wave(at: i32, period: i32, height: i32) -> i32 {
@@ -69,10 +59,9 @@ fn jump(frame: i32, place: usize) -> u32 {
 /// Fills the codes that the rates ask for: mostly 0 or close to it.
 fn fill(frame: &mut Frame, number: i32) -> Result<(), Refusal> {
     let rates = frame.layout()?.rates;
-    let mut at = 0;
-    for (band, &rate) in rates.iter().enumerate() {
+    for (band, rate) in rates.into_iter().enumerate() {
         let values = 1_u32 << rate;
-        for place in at..at + coefficients(band) {
+        for place in band_places(band) {
             let jump = jump(number, place);
             frame.codes[place] = match (rate, place % 8) {
                 (0, _) | (1, 1..) => 0,
@@ -80,7 +69,6 @@ fn fill(frame: &mut Frame, number: i32) -> Result<(), Refusal> {
                 _ => [0, 1, values - 1, 0, jump % values][jump as usize % 5] as u16,
             };
         }
-        at += coefficients(band);
     }
     frame.record.flag_c = frame.choose_flag_c()?;
     frame.record.tail_bits = frame.layout()?.tail_bits;

@@ -57,6 +57,7 @@
 #[cfg(feature = "std")]
 extern crate std;
 
+mod bands;
 mod channels;
 mod frame;
 mod norms;
@@ -67,6 +68,7 @@ mod refusal;
 mod sizes;
 mod walk;
 
+pub use bands::band_places;
 pub use channels::{
     blocks, check_blocks, extract, join, read_block, write_block, Block, Blocks, Copied, StoredBlock,
 };

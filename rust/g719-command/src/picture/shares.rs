@@ -5,25 +5,16 @@ use super::plan::{Plan, MAP, RATES_TOP};
 use super::svg::{part, rules, text, titled_path, FAINT, INK, SMALL, SMALL_MIDDLE};
 use super::text::grouped;
 use super::{Recording, BANDS};
+use g719::band_places;
 
 /// Pixels of the longest bar.
 const LONGEST: usize = 110;
 const FILL: &str = "#7a3b2c";
 
-/// Coefficients of a band.
-fn length(band: usize) -> usize {
-    match band {
-        0..=15 => 8,
-        16..=23 => 16,
-        24..=35 => 24,
-        _ => 32,
-    }
-}
-
 /// The bits that a band was granted: its rate for each of its coefficients, frame by frame.
 fn granted(recording: &Recording, band: usize) -> usize {
     let data = recording.frames.iter().filter_map(|frame| frame.data.as_ref());
-    data.map(|data| usize::from(data.rates[band]) * length(band))
+    data.map(|data| usize::from(data.rates[band]) * band_places(band).len())
         .sum()
 }
 
