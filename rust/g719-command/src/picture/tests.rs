@@ -112,8 +112,9 @@ fn a_refused_frame_has_a_mark_a_torn_edge_and_the_byte() {
 
 #[test]
 fn the_label_stays_in_the_picture() {
-    for count in (0..60).chain([199, 500, 501, 2999, 3000]) {
-        for reply in [2, 3, 4, 5, 6, 7, 15] {
+    for count in (0..40).chain([199, 501, 3000]) {
+        // the shortest label, the longest, and the one of another kind
+        for reply in [4, 6, 15] {
             let root = parse(&draw(&recording(count, reply, even))).unwrap();
             let all = root.all();
             let label = all
