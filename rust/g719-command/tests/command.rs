@@ -5,7 +5,7 @@ mod runs;
 use runs::{command_by, frame, recording, report, started, Folder, Run};
 use std::fs;
 use std::io::Write;
-use std::os::unix::fs::{symlink, MetadataExt, PermissionsExt};
+use std::os::unix::fs::{symlink, FileTypeExt, MetadataExt, PermissionsExt};
 use std::os::unix::process::CommandExt;
 use std::process::Stdio;
 
@@ -285,9 +285,9 @@ fn a_closed_pipe() {
     );
 }
 
-/// What is no plain file is written to as it is, and behind a link the file is replaced.
+/// Behind a link the file is replaced and the link stays; a folder is not written to.
 #[test]
-fn devices_links_and_folders() {
+fn links_and_folders() {
     let folder = Folder::new("places");
     folder.write("report", &recording(3));
     fs::create_dir(folder.path("folder")).unwrap();
@@ -309,19 +309,23 @@ fn devices_links_and_folders() {
             "g719: no/such: not written: No such file or directory (os error 2)\n"
         )
     );
-    assert_eq!(out("/dev/null"), Run::of(0, "", ""));
-    assert!(!fs::metadata("/dev/null").unwrap().is_file());
-    assert_eq!(
-        out("/dev/full"),
-        Run::of(
-            2,
-            "",
-            "g719: /dev/full: not written: No space left on device (os error 28)\n"
-        )
-    );
     assert_eq!(out("report"), Run::of(0, "", ""));
     assert_eq!(folder.read("report"), recording(3));
     assert_eq!(folder.names(), ["folder", "link", "report"]);
+}
+
+/// What is no plain file is written to as it is. The test makes a pipe of its own: a command that renamed over a
+/// device would spoil the machine that it is tried on.
+#[test]
+fn what_is_no_plain_file() {
+    let folder = Folder::new("no_file");
+    folder.write("report", &recording(3));
+    let script = "mkfifo pipe; timeout 20 cat pipe >copy & \"$@\"; status=$?; wait; exit $status";
+    let run = folder.run_in_shell(script, &["join", "report", "-o", "pipe"]);
+    assert_eq!(run, Run::of(0, "", ""));
+    assert!(fs::metadata(folder.path("pipe")).unwrap().file_type().is_fifo());
+    assert_eq!(folder.read("copy"), folder.read("report"));
+    assert_eq!(folder.names(), ["copy", "pipe", "report"]);
 }
 
 #[test]
