@@ -19,7 +19,7 @@ static const char *const texts[] = {
     [G719_WRONG_TAIL] = "the tail's bit count is wrong, or a bit behind it is not 0",
     [G719_NO_DATA] = "a frame without data",
     [G719_TOO_MANY] = "bytes follow 3,000 frames",
-    [G719_WRONG_CHANNELS] = "not 1 to 8 channels, a channel not among them, or recordings of unequal length",
+    [G719_WRONG_CHANNELS] = "not 1 to 8 channels, a channel not among them, or recordings of unequal frame counts",
 };
 
 const char *g719_reply_text(uint8_t reply)

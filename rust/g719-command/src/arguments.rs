@@ -37,8 +37,7 @@ pub fn take(
                 let value = arguments.option(names, name, value)?;
                 arguments.options.push(value);
             }
-            // a name that is not UTF-8 may begin with a dash: it is no option, and says so by ./-name or
-            // behind --
+            // what is not UTF-8 is no option, even if it begins with a dash
             _ => arguments.files.push(word.clone()),
         }
     }

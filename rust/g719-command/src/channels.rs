@@ -82,7 +82,7 @@ fn unequal(names: &[OsString], mut bytes: &[u8], lengths: &[u32], refusal: Refus
         bytes = rest;
     }
     let why = match refusal {
-        Refusal::WrongChannels => "recordings of unequal length are not joined".to_string(),
+        Refusal::WrongChannels => "recordings of unequal frame counts are not joined".to_string(),
         other => other.to_string(),
     };
     complain(&format!("{why}; nothing was written"));

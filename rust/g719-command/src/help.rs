@@ -98,6 +98,9 @@ Takes one channel out of a recording of several: its frames, as stored.
                   not say
   --channel K     which one, from 0
   -o OUT          where to write it; nothing is written if a block is not sound
+
+Ends with 0 if it was written, with 1 if a block is not sound, with 2 if
+something could not be read, written or understood.
 ";
 
 pub const JOIN: &str = "\
@@ -108,6 +111,9 @@ channel by channel in the order of the files. g719 extract takes each out
 again, byte by byte.
 
   -o OUT    where to write it; nothing is written if a recording is not sound
+
+Ends with 0 if it was written, with 1 if a recording is not sound or frame
+counts differ, with 2 if something could not be read, written or understood.
 ";
 
 #[cfg(test)]

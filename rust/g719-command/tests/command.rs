@@ -364,7 +364,7 @@ fn joined_and_taken_apart() {
     folder.write("short", &recording(6));
     let run = folder.run(&["join", "a", "short", "-o", "none"]);
     let said = "g719: a: 7 sound frames\ng719: short: 6 sound frames\n\
-        g719: recordings of unequal length are not joined; nothing was written\n";
+        g719: recordings of unequal frame counts are not joined; nothing was written\n";
     assert_eq!(run, Run::of(1, "", said));
     folder.write("cut", &report());
     let run = folder.run(&["join", "a", "cut", "-o", "none"]);

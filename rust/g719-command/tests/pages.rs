@@ -140,7 +140,7 @@ fn show_of_a_cut_report() {
     assert_eq!(run, Run::of(2, "", said));
 }
 
-/// Bits granted and bits left add up to the budget, in every kind of frame.
+/// The parts of a body add up. Codes are fixed in these frames, so what the bands were granted is what the codes took.
 #[test]
 fn show_adds_up() {
     let folder = Folder::new("show_sums");
@@ -163,6 +163,6 @@ fn show_adds_up() {
         assert_eq!(body, flags + norms + noise + budget, "{bits}");
         assert_eq!(budget, codes + tail, "{bits}");
         let granted: u32 = run.printed.lines().last().unwrap()[4..].trim().parse().unwrap();
-        assert!(granted <= budget, "{bits}");
+        assert_eq!(granted, codes, "{bits}");
     }
 }

@@ -74,7 +74,7 @@ refusals! {
     WrongTail = WRONG_TAIL, "the tail's bit count is wrong, or a bit behind it is not 0";
     TooMany = TOO_MANY, "bytes follow 3,000 frames";
     WrongChannels = WRONG_CHANNELS,
-        "not 1 to 8 channels, a channel not among them, or recordings of unequal length";
+        "not 1 to 8 channels, a channel not among them, or recordings of unequal frame counts";
 }
 
 impl fmt::Display for Refusal {
