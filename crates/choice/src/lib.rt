@@ -19,7 +19,7 @@ fn no_choice(reply: u8) -> Choice
 }
 
 // What a number costs as a word of Table 20 where the kind is 2 to 5, and nothing elsewhere.
-fn as_word(table: &[u16; 92], kind: u8, v: u16) -> usize
+fn as_word(table: &[u16; 60], kind: u8, v: u16) -> usize
     requires { ⌜ now table ≡ writingTable ⌝ }
     ensures { λ n. ⌜ (n ≡ asWord kind v) × (n ≤ 16) ⌝ }
 {
@@ -46,7 +46,7 @@ fn as_fixed(kind: u8) -> usize
 }
 
 // Whether words cost less than fixed codes.
-fn words_cheaper(table: &[u16; 92], kinds: &[u8], numbers: &[u16]) -> bool
+fn words_cheaper(table: &[u16; 60], kinds: &[u8], numbers: &[u16]) -> bool
     requires { ⌜ (now table ≡ writingTable) × (length (now kinds) ≡ length (now numbers)) × (length (now kinds) ≤ 800) ⌝ }
     ensures { λ b. ⌜ b ≡ cheaper (now (kinds .entry)) (now (numbers .entry)) ⌝ }
 {

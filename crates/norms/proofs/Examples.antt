@@ -7,7 +7,8 @@ use lib.ListN.{length, take, replicate}
 use Rattle.bits.specs.Bits.{word, view}
 use Rattle.bits.specs.Codings.{wordOf}
 use Rattle.bits.specs.Codecs.{writeAll}
-use Rattle.words.specs.Tables.{coding, words, table16}
+use Rattle.norm_words.specs.Table16.{table16}
+use Rattle.words.specs.Tables.{coding, words}
 use Rattle.order.specs.SentOrder.{sent}
 use Rattle.norms.specs.Steps.{numbers, close, stepsClose}
 use Rattle.norms.specs.Part.{normKinds, normBits}

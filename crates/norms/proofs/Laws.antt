@@ -2,6 +2,7 @@
 pub mod Answers
 pub mod Codec
 pub mod Loops
+pub mod StepBits
 pub mod Part
 pub mod Reads
 pub mod Steps

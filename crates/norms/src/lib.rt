@@ -1,13 +1,17 @@
 // The 44 norm indices as they stand in a frame: read, written and counted, and the FlagN choice (7.4, 8.2).
 ghost use mathlib.Core.Path.{_≡_};
-ghost use Prim.Native.Nat.{_+_, _-_, _<_};
+ghost use mathlib.Core.Bool.{cond};
+ghost use Prim.Native.Nat.{_+_, _-_, _≤_, _<_};
+ghost use lib.Dec.{T};
 ghost use lib.ListN.{length};
 ghost use Rattle.bits.specs.Bits.{view, laid};
 ghost use Rattle.norms.specs.Steps.{indices, numbers, stepsClose};
 ghost use Rattle.norms.specs.Part.{normKinds, normPart, normBits};
-ghost use Rattle.norms.specs.Answers.{partOf, normReply, choiceOf};
-ghost use Rattle.norms.specs.Inner.{indicesOf};
+ghost use Rattle.norms.specs.Answers.{partOf, normReply, wordTotal, choiceOf};
+ghost use Rattle.norms.specs.Inner.{indicesOf, stepTotal};
+use ground::numbers::larger8;
 use ground::numbers::minus16;
+use ground::numbers::size_from_u8;
 use ground::numbers::size_from_u16;
 use ground::numbers::u16_from_u8;
 use ground::replies::DONE;
@@ -97,7 +101,7 @@ pub fn read_norms(s: &[u8], at: usize, end: usize, transient: bool, flag_n: bool
 {
     let mut ws = [0u16; 44];
     let kinds = norm_kinds(flag_n);
-    let run = runs::read_words(s, at, end, &kinds, &mut ws);
+    let run = runs::read_shaped_words(s, at, end, &kinds, &mut ws);
     let Run::Done(next) = run else {
         return NormPart {
             reply: runs::run_reply(run),
@@ -142,51 +146,76 @@ pub fn norm_bits(transient: bool, flag_n: bool, norms: [u8; 44]) -> usize
     runs::run_bits(&kinds, &numbers)
 }
 
-// Whether each difference of indices in sent order is -15 to 16.
-fn steps_close(ss: [u8; 44]) -> bool
-    ensures { λ r. ⌜ r ≡ stepsClose ss ⌝ }
+// How many bits the 43 words of the differences of indices in sent order have, 0 where a difference is not -15 to 16.
+fn step_bits(ss: [u8; 44]) -> usize
+    ensures { λ r. ⌜ (r ≡ cond (stepsClose ss) (stepTotal ss) 0) × (T (stepsClose ss) → 129 ≤ r) ⌝ }
 {
+    let mut far: u8 = 0;
+    let mut more: u8 = 0;
     let mut i: usize = 0;
     while i < 43 {
-        let x = u16_from_u8(ss[i]);
-        let y = u16_from_u8(ss[i + 1]);
-        if y + 15 < x {
-            return false;
-        }
-        if x + 16 < y {
-            return false;
-        }
+        let size = norm_words::step_size(ss[i], ss[i + 1]);
+        far = larger8(far, size);
+        more += norm_words::more_bits(size);
         i += 1;
     }
-    true
+    if 15 < far {
+        return 0;
+    }
+    129 + size_from_u8(more)
+}
+
+// What norms are as words: the reply to writing them, and with 0 how many bits the 43 words have.
+struct Measured {
+    reply: u8,
+    bits: usize,
+}
+
+// 8 for an index over 39 or a first one over 31, then 9 for a difference outside -15 to 16, else 0 and the bits.
+fn measure(transient: bool, norms: [u8; 44]) -> Measured
+    ensures { λ r. ⌜ (r .reply ≡ normReply transient norms) × (r .reply ≡ 0 → r .bits ≡ wordTotal transient norms) ⌝ }
+{
+    if !ground::indices::in_range(&norms) {
+        return Measured {
+            reply: OUT_OF_RANGE,
+            bits: 0,
+        };
+    }
+    if 31 < norms[0] {
+        return Measured {
+            reply: OUT_OF_RANGE,
+            bits: 0,
+        };
+    }
+    let bits = step_bits(order::sent_order(transient, norms));
+    if bits == 0 {
+        return Measured {
+            reply: FAR_APART,
+            bits: 0,
+        };
+    }
+    Measured { reply: DONE, bits }
 }
 
 // Whether norms can be written: 8 for an index over 39 or a first one over 31, then 9 for a difference outside -15 to 16, else 0.
 pub fn norm_reply(transient: bool, norms: [u8; 44]) -> u8
     ensures { λ r. ⌜ r ≡ normReply transient norms ⌝ }
 {
-    if !ground::indices::in_range(&norms) {
-        return OUT_OF_RANGE;
-    }
-    if 31 < norms[0] {
-        return OUT_OF_RANGE;
-    }
-    if steps_close(order::sent_order(transient, norms)) {
-        return DONE;
-    }
-    FAR_APART
+    let m = measure(transient, norms);
+    m.reply
 }
 
-// FlagN: 1 exactly when the 43 words total under 215 bits; with the first index's five bits that is under 220.
+// FlagN: 1 exactly when the 43 words total under 215 bits.
 pub fn choose_flag_n(transient: bool, norms: [u8; 44]) -> Choice
     ensures { λ r. ⌜ r ≡ choiceOf transient norms ⌝ }
 {
-    let reply = norm_reply(transient, norms);
+    let m = measure(transient, norms);
+    let reply = m.reply;
     if reply != DONE {
         return Choice { reply, flag: false };
     }
     Choice {
         reply: DONE,
-        flag: norm_bits(transient, true, norms) < 220,
+        flag: m.bits < 215,
     }
 }

@@ -1,11 +1,12 @@
 // Words one after the other: a run of kinds, read into a lent slice, written from one, and counted.
 ghost use mathlib.Core.Path.{_≡_};
 ghost use mathlib.Core.List.{map};
-ghost use Prim.Native.Nat.{_+_, _-_, _*_, _≤_, _<_};
-ghost use lib.ListN.{length};
+ghost use Prim.Native.Nat.{ℕ, _+_, _-_, _*_, _≤_, _<_};
+ghost use lib.Dec.{T};
+ghost use lib.ListN.{length, getD};
 ghost use Rattle.bits.specs.Bits.{laid};
 ghost use Rattle.bits.specs.Codecs.{writeAll};
-ghost use Rattle.words.specs.Tables.{coding};
+ghost use Rattle.words.specs.Tables.{coding, shaped};
 ghost use Rattle.words.specs.ReadingTable.{readingTable};
 ghost use Rattle.words.specs.WritingTable.{writingTable};
 ghost use Rattle.runs.specs.Runs.{ran, runAt, readSome, over, passedUp, runReply};
@@ -41,7 +42,7 @@ pub fn run_reply(run: Run) -> u8
 
 // The run by a lent look-up.
 fn read_run(
-    table: &[u8; 640],
+    table: &[u8; 512],
     s: &[u8],
     at: usize,
     end: usize,
@@ -76,8 +77,28 @@ pub fn read_words(s: &[u8], at: usize, end: usize, kinds: &[u8], out: &mut [u16]
     read_run(&table, s, at, end, kinds, out)
 }
 
+// Reads the words of kinds that need no look-up: as many bits, and norm words.
+pub fn read_shaped_words(s: &[u8], at: usize, end: usize, kinds: &[u8], out: &mut [u16]) -> Run
+    requires { ⌜ (length (now kinds) ≤ length (now out)) × ((i : ℕ) → i < length (now kinds) → T (shaped (getD (now kinds) i 0))) ⌝ }
+    ensures { λ r. ⌜ (r ≡ ran at (end - at) (runAt (now (s .entry)) at end (now (kinds .entry))))
+        × (now (out .exit) ≡ over (readSome (now (s .entry)) at end (now (kinds .entry))) (now (out .entry))) ⌝ }
+{
+    let mut p = at;
+    let mut i: usize = 0;
+    while i < kinds.len() {
+        let w = words::read_shaped(s, p, end, kinds[i]);
+        let Word::At(v, next) = w else {
+            return passed(w);
+        };
+        out[i] = v;
+        p = next;
+        i += 1;
+    }
+    Run::Done(p)
+}
+
 // The run by lent words.
-fn write_run(table: &[u16; 92], s: &mut [u8], at: usize, kinds: &[u8], numbers: &[u16]) -> usize
+fn write_run(table: &[u16; 60], s: &mut [u8], at: usize, kinds: &[u8], numbers: &[u16]) -> usize
     requires { ⌜ (now table ≡ writingTable) × (length (now kinds) ≡ length (now numbers)) × (at + 16 * length (now kinds) < 18446744073709551616) ⌝ }
     ensures { λ r. ⌜ (r ≡ length (writeAll (map coding (now (kinds .entry))) (now (numbers .entry))))
         × (now (s .exit) ≡ laid (now (s .entry)) at (writeAll (map coding (now (kinds .entry))) (now (numbers .entry)))) ⌝ }
@@ -102,7 +123,7 @@ pub fn write_words(s: &mut [u8], at: usize, kinds: &[u8], numbers: &[u16]) -> us
 }
 
 // The count by lent words.
-fn count_run(table: &[u16; 92], kinds: &[u8], numbers: &[u16]) -> usize
+fn count_run(table: &[u16; 60], kinds: &[u8], numbers: &[u16]) -> usize
     requires { ⌜ (now table ≡ writingTable) × (length (now kinds) ≡ length (now numbers)) × (16 * length (now kinds) < 18446744073709551616) ⌝ }
     ensures { λ r. ⌜ r ≡ length (writeAll (map coding (now (kinds .entry))) (now (numbers .entry))) ⌝ }
 {

@@ -2,7 +2,7 @@
 -- Assumes nothing.
 use mathlib.Core.Bool.{Bool, true, false, _&&_, cond}
 use mathlib.Core.List.{List, [], _∷_, _++_}
-use Prim.Native.Nat.{ℕ, zero, suc, _+_, _*_, _/_, _%_}
+use Prim.Native.Nat.{ℕ, _+_, _*_, _/_, _%_}
 use lib.Dec.{eqb, ltb}
 use lib.ListN.{length, getD, take}
 use Rattle.bits.specs.Bits.{word, val}
@@ -10,11 +10,6 @@ use Rattle.words.specs.Tables.{words, refused}
 
 unfoldable pub packed : List Bool → ℕ
 packed w = val w * 8 + length w
-
--- where a column's words begin, all columns one after the other
-unfoldable pub startOf : ℕ → ℕ
-startOf zero = 0
-startOf (suc c) = startOf c + length (words c)
 
 -- the same bits
 abbrev pub same : List Bool → List Bool → Bool

@@ -1,21 +1,13 @@
--- Tables 16 and 20 as they are printed, and the codings that their words make.
+-- Table 20 as it is printed, and the codings that its words and those of Table 16 make.
 -- Assumes nothing.
-use mathlib.Core.Bool.{Bool, cond}
-use mathlib.Core.List.{List, [], _∷_, _++_, map}
+use mathlib.Core.Bool.{Bool, true, cond}
+use mathlib.Core.List.{List, [], _∷_, map}
 use Prim.Native.Nat.{ℕ, zero, suc, _-_, _^_}
-use lib.Dec.{ltb}
+use lib.Dec.{ltb, leb}
 use lib.ListN.{getD, take}
 use Rattle.bits.specs.Bits.{word}
 use Rattle.bits.specs.Codings.{Coding, fixed, prefix}
-
--- Table 16, Huffman code for differential indices: its four columns of eight
-unfoldable pub table16 : List (List Bool)
-table16 =
-    (word 7 0b0011010 ∷ word 7 0b0111010 ∷ word 7 0b1011010 ∷ word 7 0b1111010 ∷ word 7 0b0011011 ∷ word 7 0b0111011 ∷ word 7 0b1011011 ∷ word 7 0b1111011 ∷ [])
-    ++ (word 6 0b001100 ∷ word 6 0b011100 ∷ word 6 0b101100 ∷ word 6 0b111100 ∷ word 4 0b0010 ∷ word 4 0b0110 ∷ word 3 0b100 ∷ word 3 0b110 ∷ [])
-    ++ (word 3 0b000 ∷ word 3 0b010 ∷ word 4 0b1010 ∷ word 4 0b1110 ∷ word 6 0b001110 ∷ word 6 0b011110 ∷ word 6 0b101110 ∷ word 6 0b111110 ∷ [])
-    ++ (word 7 0b0011110 ∷ word 7 0b0111110 ∷ word 7 0b1011110 ∷ word 7 0b1111110 ∷ word 7 0b0011111 ∷ word 7 0b0111111
-    ∷ word 7 0b1011111 ∷ word 7 0b1111111 ∷ [])
+use Rattle.norm_words.specs.Table16.{table16}
 
 -- Table 20, Huffman code for LVQ2 quantization indices: a row for each index, in it the 2-b, 3-b, 4-b and 5-b word; [] is a blank
 unfoldable pub table20 : List (List (List Bool))
@@ -91,6 +83,10 @@ firstWords = 16
 -- the kind of a norm word
 abbrev pub normWords : ℕ
 normWords = 20
+
+-- a kind whose words need no table: as many bits, or a norm word
+abbrev pub shaped : ℕ → Bool
+shaped kind = cond (ltb kind firstWords) true (leb normWords kind)
 
 -- what stands at one place of a frame. Kinds below the first words are as many bits (of 0 bits: an unused place); then come the words of rates 2 to 5, and
 -- from normWords on those of Table 16

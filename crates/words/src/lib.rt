@@ -1,20 +1,22 @@
-// The words of a frame: as many bits as a place has, coefficient words (Table 20) and norm words (Table 16), read by one look-up and written.
+// The words of a frame: as many bits as a place has, coefficient words (Table 20), read by one look-up and written by their table, and norm words
+// (Table 16), which are read and written by their shape.
 ghost use mathlib.Core.Path.{_≡_};
-ghost use Prim.Native.Nat.{_+_, _-_, _*_, _≤_, _<_};
+ghost use Prim.Native.Nat.{_+_, _*_, _≤_, _<_};
 ghost use lib.Dec.{T};
 ghost use lib.ListN.{length, getD};
 ghost use mathlib.Core.List.{[]};
 ghost use Rattle.bits.specs.Bits.{word, view, laid};
-ghost use Rattle.bits.specs.Codings.{unword, wordOf, fit};
-ghost use Rattle.words.specs.Tables.{words, column, coding};
+ghost use Rattle.bits.specs.Codings.{fixed, unword, wordOf, fit};
+ghost use Rattle.words.specs.Tables.{words, column, coding, shaped};
 ghost use Rattle.words.specs.Answers.{placed, wordAt};
-ghost use Rattle.words.specs.Inner.{right, packed, startOf};
+ghost use Rattle.words.specs.Inner.{right, packed};
 ghost use Rattle.words.specs.ReadingTable.{readingTable};
 ghost use Rattle.words.specs.WritingTable.{writingTable};
 use bits::Refusal;
 use ground::numbers::minus;
 use ground::numbers::size_from_u8;
 use ground::numbers::size_from_u16;
+use norm_words::Spelling;
 
 pub mod tables;
 
@@ -33,28 +35,40 @@ pub enum Word {
     No(Refusal),
 }
 
-fn reading_entry(table: &[u8; 640], k: usize) -> usize
-    requires { ⌜ (now table ≡ readingTable) × (k < 640) ⌝ }
+// As many bits at a place, within the bits that are left.
+fn fixed_word(s: &[u8], at: usize, left: usize, n: usize) -> Word
+    requires { ⌜ (n < 16) × (at + left < 18446744073709551616) ⌝ }
+    ensures { λ r. ⌜ r ≡ placed at left (unword (fixed n) (view (now (s .entry)) at left)) ⌝ }
+{
+    if left < n {
+        return Word::No(Refusal::Past);
+    }
+    Word::At(bits::read_bits(s, at, n) as u16, at + n)
+}
+
+// The norm word at a place, within the bits that are left.
+fn norm_word(s: &[u8], at: usize, left: usize) -> Word
+    requires { ⌜ at + left < 18446744073709551616 ⌝ }
+    ensures { λ r. ⌜ r ≡ placed at left (unword (column 4) (view (now (s .entry)) at left)) ⌝ }
+{
+    let w = norm_words::word_in(bits::read_bits(s, at, 7));
+    let n = w.bits;
+    if left < n {
+        return Word::No(Refusal::Past);
+    }
+    Word::At(w.number as u16, at + n)
+}
+
+fn reading_entry(table: &[u8; 512], k: usize) -> usize
+    requires { ⌜ (now table ≡ readingTable) × (k < 512) ⌝ }
     ensures { λ r. ⌜ T (right k r) × (r < 256) ⌝ }
 {
     size_from_u8(table[k])
 }
 
-// The column of a kind of words.
-fn column_of(kind: usize) -> usize
-    requires { ⌜ 16 ≤ kind ⌝ }
-    ensures { λ r. ⌜ (column r ≡ column (kind - 16)) × (r < 5) ⌝ }
-{
-    if kind < NORM_WORDS as usize {
-        kind - FIRST_WORDS
-    } else {
-        4
-    }
-}
-
-// The word of a column at a place, within the bits that are left.
-fn column_word(table: &[u8; 640], s: &[u8], at: usize, left: usize, c: usize) -> Word
-    requires { ⌜ (now table ≡ readingTable) × (c < 5) × (at + left < 18446744073709551616) ⌝ }
+// The word of a column of Table 20 at a place, within the bits that are left.
+fn column_word(table: &[u8; 512], s: &[u8], at: usize, left: usize, c: usize) -> Word
+    requires { ⌜ (now table ≡ readingTable) × (c < 4) × (at + left < 18446744073709551616) ⌝ }
     ensures { λ r. ⌜ r ≡ placed at left (unword (column c) (view (now (s .entry)) at left)) ⌝ }
 {
     let e = reading_entry(table, c * 128 + bits::read_bits(s, at, 7));
@@ -72,7 +86,7 @@ fn column_word(table: &[u8; 640], s: &[u8], at: usize, left: usize, c: usize) ->
 }
 
 // The word of a kind at a place, by a lent look-up.
-pub fn read_word_by(table: &[u8; 640], s: &[u8], at: usize, end: usize, kind: u8) -> Word
+pub fn read_word_by(table: &[u8; 512], s: &[u8], at: usize, end: usize, kind: u8) -> Word
     requires { ⌜ now table ≡ readingTable ⌝ }
     ensures { λ r. ⌜ r ≡ wordAt (now (s .entry)) at end kind ⌝ }
 {
@@ -81,13 +95,26 @@ pub fn read_word_by(table: &[u8; 640], s: &[u8], at: usize, end: usize, kind: u8
     }
     let kind = size_from_u8(kind);
     let left = minus(end, at);
-    if FIRST_WORDS <= kind {
-        return column_word(table, s, at, left, column_of(kind));
+    if kind < FIRST_WORDS {
+        return fixed_word(s, at, left, kind);
     }
-    if left < kind {
-        return Word::No(Refusal::Past);
+    if kind < NORM_WORDS as usize {
+        return column_word(table, s, at, left, kind - FIRST_WORDS);
     }
-    Word::At(bits::read_bits(s, at, kind) as u16, at + kind)
+    norm_word(s, at, left)
+}
+
+// The word of a kind at a place, of one that needs no look-up: as many bits, or a norm word.
+pub fn read_shaped(s: &[u8], at: usize, end: usize, kind: u8) -> Word
+    requires { ⌜ T (shaped kind) ⌝ }
+    ensures { λ r. ⌜ r ≡ wordAt (now (s .entry)) at end kind ⌝ }
+{
+    let kind = size_from_u8(kind);
+    let left = minus(end, at);
+    if kind < FIRST_WORDS {
+        return fixed_word(s, at, left, kind);
+    }
+    norm_word(s, at, left)
 }
 
 // The word of a kind at a place, all of it before the end: the bits from the end on never help to finish a word.
@@ -98,36 +125,39 @@ pub fn read_word(s: &[u8], at: usize, end: usize, kind: u8) -> Word
     read_word_by(&table, s, at, end, kind)
 }
 
-fn start_of(c: usize) -> usize
-    requires { ⌜ c < 6 ⌝ }
-    ensures { λ r. ⌜ (r ≡ startOf c) × (r ≤ 92) ⌝ }
-{
-    size_from_u8(tables::STARTS[c])
-}
-
-// How many words a column has.
+// How many words a column of Table 20 has: as many as there are numbers of its rate.
 fn size_of(c: usize) -> usize
-    requires { ⌜ c < 5 ⌝ }
-    ensures { λ r. ⌜ r ≡ length (words c) ⌝ }
+    requires { ⌜ c < 4 ⌝ }
+    ensures { λ r. ⌜ (r ≡ length (words c)) × (4 ≤ r) ⌝ }
 {
-    start_of(c + 1) - start_of(c)
+    4 << c
 }
 
-fn writing_entry(table: &[u16; 92], c: usize, v: usize) -> usize
-    requires { ⌜ (now table ≡ writingTable) × (c < 5) × (v < length (words c)) ⌝ }
+// The word of a column as a number. A column begins after the smaller ones.
+fn writing_entry(table: &[u16; 60], c: usize, v: usize) -> usize
+    requires { ⌜ (now table ≡ writingTable) × (c < 4) × (v < length (words c)) ⌝ }
     ensures { λ r. ⌜ (r ≡ packed (getD (words c) v [])) × (r < 65536) ⌝ }
 {
-    size_from_u16(table[start_of(c) + v])
+    size_from_u16(table[size_of(c) - 4 + v])
 }
 
-// A word as so many bits of a number.
-struct Spelling {
-    bits: usize,
-    value: usize,
+// The word of a column for a number; no bits where it has none.
+fn column_spelling(table: &[u16; 60], c: usize, v: usize) -> Spelling
+    requires { ⌜ (now table ≡ writingTable) × (c < 4) ⌝ }
+    ensures { λ r. ⌜ (word (r .bits) (r .value) ≡ wordOf (column c) v) × (r .bits ≤ 16) ⌝ }
+{
+    if size_of(c) <= v {
+        return Spelling { bits: 0, value: 0 };
+    }
+    let e = writing_entry(table, c, v);
+    Spelling {
+        bits: e % 8,
+        value: e / 8,
+    }
 }
 
 // The word of a kind for a number; no bits where it has none.
-fn word_of(table: &[u16; 92], kind: u8, v: u16) -> Spelling
+fn word_of(table: &[u16; 60], kind: u8, v: u16) -> Spelling
     requires { ⌜ now table ≡ writingTable ⌝ }
     ensures { λ r. ⌜ (word (r .bits) (r .value) ≡ wordOf (coding kind) v) × (r .bits ≤ 16) ⌝ }
 {
@@ -139,19 +169,14 @@ fn word_of(table: &[u16; 92], kind: u8, v: u16) -> Spelling
             value: v,
         };
     }
-    let c = column_of(kind);
-    if size_of(c) <= v {
-        return Spelling { bits: 0, value: 0 };
+    if kind < NORM_WORDS as usize {
+        return column_spelling(table, kind - FIRST_WORDS, v);
     }
-    let e = writing_entry(table, c, v);
-    Spelling {
-        bits: e % 8,
-        value: e / 8,
-    }
+    norm_words::spelling_of(v)
 }
 
 // Writes the word of a kind for a number at a place, by lent words.
-pub fn write_word_by(table: &[u16; 92], s: &mut [u8], at: usize, kind: u8, v: u16) -> usize
+pub fn write_word_by(table: &[u16; 60], s: &mut [u8], at: usize, kind: u8, v: u16) -> usize
     requires { ⌜ now table ≡ writingTable ⌝ }
     ensures { λ r. ⌜ (r ≡ length (wordOf (coding kind) v)) × (now (s .exit) ≡ laid (now (s .entry)) at (wordOf (coding kind) v)) ⌝ }
 {
@@ -171,15 +196,15 @@ pub fn write_word(s: &mut [u8], at: usize, kind: u8, v: u16) -> usize
     write_word_by(&table, s, at, kind, v)
 }
 
-// The words of all columns, to be lent.
-pub fn writing_table() -> [u16; 92]
+// The words of all columns of Table 20, to be lent.
+pub fn writing_table() -> [u16; 60]
     ensures { λ r. ⌜ r ≡ writingTable ⌝ }
 {
     tables::WRITING
 }
 
 // The length of the word of a kind for a number, by lent words.
-pub fn word_bits_by(table: &[u16; 92], kind: u8, v: u16) -> usize
+pub fn word_bits_by(table: &[u16; 60], kind: u8, v: u16) -> usize
     requires { ⌜ now table ≡ writingTable ⌝ }
     ensures { λ r. ⌜ r ≡ length (wordOf (coding kind) v) ⌝ }
 {
@@ -204,5 +229,8 @@ pub fn has_word(kind: u8, v: u16) -> bool
     if kind < FIRST_WORDS {
         return v < 1 << kind;
     }
-    v < size_of(column_of(kind))
+    if kind < NORM_WORDS as usize {
+        return v < size_of(kind - FIRST_WORDS);
+    }
+    v < 32
 }

@@ -34,7 +34,7 @@ unfoldable pub anyBits : ℕ → (List Bool → Bool) → Bool
 anyBits zero f = f []
 anyBits (suc n) f = anyBits n (λ w. f (false ∷ w)) && anyBits n (λ w. f (true ∷ w))
 
-any-at : (n : ℕ) (f : List Bool → Bool) (w : List Bool) → length w ≡ n → T (anyBits n f) → T (f w)
+pub any-at : (n : ℕ) (f : List Bool → Bool) (w : List Bool) → length w ≡ n → T (anyBits n f) → T (f w)
 unfolding anyBits
 any-at zero f [] l t = t
 any-at zero f (x ∷ w) l t = absurd (omega arith)

@@ -36,27 +36,10 @@ module _ (transient : Bool) (norms : List ℕ) where
   unfolding choiceOf
   choice-no r e n = chosen-no e (ltb (wordTotal transient norms) 215) n
 
-  module _ (l : length norms ≡ 44) where
-    total : (ws : List ℕ) → 0 < length ws
-        → length (writeAll (map coding (normKinds true)) ws) ≡ 5 + length (writeAll (map coding (replicate 43 20)) (drop 1 ws))
-    total [] h = absurd (omega arith)
-    total (w ∷ ws) h = bits-split true w ws
-
-    -- the norm part with words is the 43 words and five bits more
-    pub total-bits : length (normBits transient true norms) ≡ 5 + wordTotal transient norms
-    unfolding normBits wordTotal
-    total-bits = total (numbersOf transient norms) (omega (arith, length-numbers 15 (sent transient norms), length-sent transient norms l))
-
-    pub choice-yes : (r n : ℕ) → r ≡ normReply transient norms → r ≡ 0 → n ≡ length (normBits transient true norms)
-        → record { reply = done; flag = ltb n 220 } ≡ choiceOf transient norms
-    unfolding choiceOf
-    choice-yes r n e z q =
-        let m : n ≡ 5 + wordTotal transient norms = q ∙ total-bits in
-        chosen-yes e z (same-ltb n (wordTotal transient norms) m)
-      where
-        same-ltb : (n k : ℕ) → n ≡ 5 + k → ltb n 220 ≡ ltb k 215
-        same-ltb n k e =
-            by-bool (ltb k 215) (λ t. lt-ltb n 220 (omega (arith, ltb-true k 215 t)) ∙ sym t) (λ t. le-ltb n 220 (omega (arith, ltb-false k 215 t)) ∙ sym t)
+  pub choice-yes : (r n : ℕ) → r ≡ normReply transient norms → r ≡ 0 → n ≡ wordTotal transient norms
+      → record { reply = done; flag = ltb n 215 } ≡ choiceOf transient norms
+  unfolding choiceOf
+  choice-yes r n e z q = chosen-yes e z (ap (λ (k : ℕ). ltb k 215) q)
 
 -- ---- which norms are writable
 

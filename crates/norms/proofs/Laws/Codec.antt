@@ -10,8 +10,8 @@ use Rattle.bits.specs.Codings.{got, no, Fit}
 use Rattle.bits.specs.Codecs.{Verdict, fine, bad, words, readAll, FitAll}
 use Rattle.bits.specs.declared.Refusal.{Refusal}
 use Rattle.bits.proofs.Laws.Codecs.{Lawful, words-lawful, checked-lawful, fit-length}
-use Rattle.words.specs.Tables.{coding, table16, words as wordsOf}
-use Rattle.words.proofs.Laws.Tables.{coding-fixed, coding-column, all-good}
+use Rattle.words.specs.Tables.{coding}
+use Rattle.words.proofs.Laws.Tables.{coding-fixed, coding-column, all-good, size16}
 use Rattle.order.specs.SentOrder.{sent, banded}
 use Rattle.order.proofs.Laws.SentOrder.{sent-banded, banded-sent, length-banded, length-sent}
 use Rattle.norms.specs.Steps.{numbers, indices, Near}
@@ -22,10 +22,6 @@ use Rattle.norms.proofs.Laws.Steps.{Below, indices-sound, indices-whole
 
 five : (v : ℕ) → (Fit (coding 5) v → v < 32) × (v < 32 → Fit (coding 5) v)
 five v = rw (coding-fixed 5 (omega arith)) ((λ h. h), (λ h. h))
-
-size16 : length (wordsOf 4) ≡ 32
-unfolding wordsOf table16
-size16 = refl
 
 twenty : (v : ℕ) → (Fit (coding 20) v → v < 32) × (v < 32 → Fit (coding 20) v)
 twenty v = rw (coding-column 20 (omega arith), size16) ((λ h. h), (λ h. h))

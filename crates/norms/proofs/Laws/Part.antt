@@ -13,7 +13,8 @@ use Rattle.bits.specs.Bits.{word, laid}
 use Rattle.bits.proofs.Laws.NumbersAsBits.{length-word}
 use Rattle.bits.specs.Codings.{Coding, wordOf, Fit}
 use Rattle.bits.specs.Codecs.{words, writeAll, FitAll}
-use Rattle.words.specs.Tables.{coding, table16, words as wordsOf}
+use Rattle.norm_words.specs.Table16.{table16}
+use Rattle.words.specs.Tables.{coding, words as wordsOf}
 use Rattle.words.proofs.Laws.Tables.{coding-fixed, coding-column}
 use Rattle.bits.proofs.Laws.Codings.{word-fixed}
 use Rattle.words.proofs.Laws.WritingTable.{word-column}

@@ -3,9 +3,10 @@
 use mathlib.Core.Path.{_≡_, refl, sym, ap, ap₂, _∙_}
 use mathlib.Core.Bool.{Bool, true, false}
 use mathlib.Core.List.{List, [], _∷_, map}
-use Prim.Native.Nat.{ℕ, _+_, _-_, _≤_}
+use Prim.Native.Nat.{ℕ, _+_, _-_, _≤_, _<_}
 use native.Mathlib.Omega.{arith}
-use lib.ListN.{length, replicate}
+use lib.ListN.{length, getD, replicate}
+use Rattle.ground.proofs.Laws.PrintedTables.{every, every-at}
 use Rattle.ground.specs.Replies.{done, normOutside}
 use Rattle.bits.specs.Bits.{view}
 use Rattle.bits.proofs.Laws.Views.{length-view}
@@ -13,7 +14,7 @@ use Rattle.bits.specs.Codings.{got}
 use Rattle.bits.specs.Codecs.{Verdict, fine, bad, readAll}
 use Rattle.bits.specs.declared.Refusal.{Refusal}
 use Rattle.bits.specs.declared.Refusal.the-variants.{Outside}
-use Rattle.words.specs.Tables.{coding}
+use Rattle.words.specs.Tables.{coding, shaped}
 use Rattle.runs.specs.Runs.{runAt, ran, runReply, readSome, over}
 use Rattle.runs.proofs.Laws.Runs.{run-not, run-filled}
 use Rattle.runs.specs.declared.Run.{Run}
@@ -25,7 +26,16 @@ use Rattle.norms.proofs.Laws.Codec.{kinds-long, part-no, part-bad, part
 use Rattle.norms.specs.Answers.{partOf}
 use Rattle.norms.specs.Inner.{indicesOf}
 use Rattle.norms.specs.declared.Indices.{Indices}
-use lib.Dec.{leb}
+use lib.Dec.{T, leb}
+
+-- no kind of the numbers needs a look-up
+all-shaped : (f : Bool) → T (every (λ (i k : ℕ). shaped k) 0 (normKinds f))
+unfolding normKinds
+all-shaped true = tt
+all-shaped false = tt
+
+pub kinds-shaped : (flagN : Bool) {kinds : List ℕ} → kinds ≡ normKinds flagN → (i : ℕ) → i < length kinds → T (shaped (getD kinds i 0))
+kinds-shaped flagN {kinds} e = every-at (λ (i k : ℕ). shaped k) kinds 0 (rw e (all-shaped flagN))
 
 -- an index is refused with 5 alone
 guarded-bad : (a b : Bool) (y : ℕ) (c : Verdict (List ℕ)) (x : Refusal) → ((z : Refusal) → c ≡ bad z → z ≡ Outside) → guarded a b y c ≡ bad x → x ≡ Outside

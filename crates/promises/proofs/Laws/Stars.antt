@@ -9,7 +9,8 @@ use lib.ListN.{take, drop, replicate}
 use Rattle.bits.specs.Bits.{word, val, bytesOf}
 use Rattle.bits.specs.Codings.{wordOf}
 use Rattle.bits.specs.Codecs.{writeAll}
-use Rattle.words.specs.Tables.{coding, words, table16}
+use Rattle.norm_words.specs.Table16.{table16}
+use Rattle.words.specs.Tables.{coding, words}
 use Rattle.prefix.specs.Sizes.{tableA2, lengthBytes, modeBytes, table22}
 use Rattle.prefix.specs.Prefix.{prefixOf, prefixByte, readingOf as prefixReading}
 use Rattle.prefix.proofs.Examples as prefix

@@ -1,4 +1,5 @@
--- Seven bits looked up name the word with which they begin, or none: one computed test over the table, and what follows of it.
+-- The word that stands at a place, and what reading it answers: a norm word by its shape, a word of Table 20 by the look-up, whose entries are right by
+-- one computed test.
 -- Assumes nothing.
 use mathlib.Core.Path.{_≡_, refl, sym, ap, subst, _∙_}
 use mathlib.Core.Bool.{Bool, true, false, _&&_}
@@ -17,8 +18,12 @@ use Rattle.bits.proofs.Laws.Views.{length-view, view-add, take-view, view-lt}
 use Rattle.bits.specs.Codings.{got, no, unword, find}
 use Rattle.bits.proofs.Laws.Codings.{find-word, find-cut, found-fine, found-refused, found-cut}
 use Rattle.bits.specs.declared.Refusal.the-variants.{Missing, Past}
-use Rattle.words.specs.Tables.{words, refused, lacking, column, columnOf, table16, table20}
-use Rattle.words.proofs.Laws.Tables.{free-words}
+use Rattle.norm_words.specs.Table16.{table16}
+use Rattle.norm_words.specs.Shape.{wordIn}
+use Rattle.norm_words.specs.declared.Found.{Found}
+use Rattle.norm_words.proofs.Laws.Shape.{Begins, shape-reads, long16}
+use Rattle.words.specs.Tables.{words, refused, lacking, column, columnOf, table20}
+use Rattle.words.proofs.Laws.Tables.{free-words, size16}
 use Rattle.words.specs.declared.Word.the-variants.{At, No}
 use Rattle.words.specs.Answers.{placed}
 use Rattle.words.specs.Inner.{same, begins, right}
@@ -35,22 +40,14 @@ same-eq (false ∷ w) (false ∷ u) t = ap (λ (l : List Bool). false ∷ l) (sa
 
 -- ---- reading m bits that begin with word v
 
-module _ (s : List ℕ) (p m c v n : ℕ) (few : n ≤ 7) (t : T (begins c v n (word 7 (val (view s p 7))))) where
+-- word v of a column, refused ones after the others, stands at a place and has n bits
+pub record StandsAt (s : List ℕ) (p c v n : ℕ) : Type 0 where
+  pub inside : v < length (words c ++ refused c)
+  pub word : getD (words c ++ refused c) v [] ≡ view s p n
+
+module _ {s : List ℕ} {p c v n : ℕ} (m : ℕ) (B : StandsAt s p c v n) where
   all : List (List Bool)
   all = words c ++ refused c
-
-  parts : T (ltb v (length all)) × T (same (getD all v []) (take n (word 7 (val (view s p 7)))))
-  unfolding begins all
-  parts = and-T (ltb v (length all)) (same (getD all v []) (take n (word 7 (val (view s p 7))))) t
-
-  inside : v < length all
-  inside = ltb→lt _ _ (parts .0)
-
-  the-word : getD all v [] ≡ view s p n
-  the-word =
-      same-eq _ _ (parts .1)
-      ∙ ap (take n) (rw length-view at (word-val (view s p 7)))
-      ∙ take-view s p n 7 few
 
   begun : n ≤ m → find (words c ++ refused c) 0 (view s p m) ≡ got v (view s (p + n) (m - n))
   unfolding all
@@ -58,25 +55,52 @@ module _ (s : List ℕ) (p m c v n : ℕ) (few : n ≤ 7) (t : T (begins c v n (
       let q : n + (m - n) ≡ m = omega arith in
       ap (λ (k : ℕ). find all 0 (view s p k)) (sym q)
       ∙ ap (find all 0) (view-add s p n (m - n))
-      ∙ ap (λ (l : List Bool). find all 0 (l ++ view s (p + n) (m - n))) (sym the-word)
-      ∙ find-word all 0 v (view s (p + n) (m - n)) (free-words c) inside
+      ∙ ap (λ (l : List Bool). find all 0 (l ++ view s (p + n) (m - n))) (sym (B .word))
+      ∙ find-word all 0 v (view s (p + n) (m - n)) (free-words c) (B .inside)
       ∙ ap (λ (k : ℕ). got k (view s (p + n) (m - n))) (zero-add v)
 
-  pub begins-fine : n ≤ m → v < length (words c) → unword (column c) (view s p m) ≡ got v (view s (p + n) (m - n))
-  begins-fine h l = found-fine (words c) (refused c) (view s p m) v (view s (p + n) (m - n)) (begun h) l
+  pub stands-fine : n ≤ m → v < length (words c) → At v (p + n) ≡ placed p m (unword (column c) (view s p m))
+  stands-fine h l =
+      let next : p + n ≡ p + (m - (m - n)) = omega arith in
+      rw (found-fine (words c) (refused c) (view s p m) v (view s (p + n) (m - n)) (begun h) l, length-view s (p + n) (m - n)) (ap (At v) next)
 
-  pub begins-refused : n ≤ m → length (words c) ≤ v → unword (column c) (view s p m) ≡ no Missing
-  begins-refused h l = found-refused (words c) (refused c) (view s p m) v (view s (p + n) (m - n)) (begun h) l
+  pub stands-refused : n ≤ m → length (words c) ≤ v → No Missing ≡ placed p m (unword (column c) (view s p m))
+  stands-refused h l = rw (found-refused (words c) (refused c) (view s p m) v (view s (p + n) (m - n)) (begun h) l)
 
-  pub begins-cut : m < n → unword (column c) (view s p m) ≡ no Past
+  pub stands-cut : m < n → No Past ≡ placed p m (unword (column c) (view s p m))
   unfolding all
-  begins-cut h =
+  stands-cut h =
       let q : m + (n - m) ≡ n = omega arith in
       let joined : view s p m ++ view s (p + m) (n - m) ≡ getD all v [] ++ [] =
-      sym (view-add s p m (n - m)) ∙ ap (view s p) q ∙ sym the-word ∙ sym (append-nil (getD all v [])) in
-      found-cut (words c) (refused c) (view s p m)
-      (find-cut all v (view s p m) (view s (p + m) (n - m)) [] (free-words c) inside joined
-      (omega (arith, length-view s p m, length-view s p n, ap length the-word)))
+      sym (view-add s p m (n - m)) ∙ ap (view s p) q ∙ sym (B .word) ∙ sym (append-nil (getD all v [])) in
+      let cut = find-cut all v (view s p m) (view s (p + m) (n - m)) [] (free-words c) (B .inside) joined
+      (omega (arith, length-view s p m, length-view s p n, ap length (B .word))) in
+      rw (found-cut (words c) (refused c) (view s p m) cut)
+
+-- ---- norm words
+
+module _ (s : List ℕ) (p m : ℕ) {z : ℕ} {w : Found} (q : z ≡ val (view s p 7)) (e : w ≡ wordIn z) where
+  found-there : Begins (view s p 7) (w .number) (w .bits)
+  found-there =
+      subst (λ (f : Found). Begins (view s p 7) (f .number) (f .bits)) (sym (e ∙ ap wordIn q)) (shape-reads (view s p 7) (length-view s p 7))
+
+  norm-stands : StandsAt s p 4 (w .number) (w .bits)
+  unfolding words refused
+  norm-stands =
+      let B = found-there in
+      record {
+        inside = rw (append-nil table16) (omega (arith, long16, B .inside));
+        word = rw (append-nil table16) (B .word ∙ take-view s p (w .bits) 7 (B .few));
+      }
+
+  pub norm-number : w .number < 65536
+  norm-number = omega (arith, found-there .inside)
+
+  pub norm-cut : m < w .bits → No Past ≡ placed p m (unword (column 4) (view s p m))
+  norm-cut h = stands-cut m norm-stands h
+
+  pub norm-fine : w .bits ≤ m → At (w .number) (p + w .bits) ≡ placed p m (unword (column 4) (view s p m))
+  norm-fine h = stands-fine m norm-stands h (omega (arith, found-there .inside, size16))
 
 -- ---- what an entry says
 
@@ -104,11 +128,11 @@ module _ (s : List ℕ) (p c e : ℕ) (t : T (right (c * 128 + val (view s p 7))
   pub entry-lt : (e ≡ 0 → ⊥) → e / 8 < length (words c)
   entry-lt z = ltb→lt _ _ (and-T (ltb (e / 8) (length (words c))) (begins c (e / 8) (e % 8) (word 7 (val (view s p 7)))) (entry-both z) .0)
 
-pub reading-right : (k : ℕ) → k < 640 → T (right k (getD readingTable k 0))
+pub reading-right : (k : ℕ) → k < 512 → T (right k (getD readingTable k 0))
 unfolding readingTable right begins words refused lacking columnOf table16 table20 word
 reading-right k h = every-at right readingTable 0 tt k h
 
-pub reading-entry-is : {k e : ℕ} (table : List ℕ) → table ≡ readingTable → k < 640 → e ≡ getD table k 0 → T (right k e)
+pub reading-entry-is : {k e : ℕ} (table : List ℕ) → table ≡ readingTable → k < 512 → e ≡ getD table k 0 → T (right k e)
 reading-entry-is {k} table q h e = subst (λ (x : ℕ). T (right k x)) (sym (e ∙ ap (λ (l : List ℕ). getD l k 0) q)) (reading-right k h)
 
 -- ---- what the code answers by the entry e, at the seven bits that it read
@@ -117,20 +141,30 @@ module _ (s : List ℕ) (p m c e : ℕ) {z : ℕ} (q : z ≡ val (view s p 7)) (
   told : T (right (c * 128 + val (view s p 7)) e)
   told = rw q at t
 
+  stands : (v n : ℕ) → n ≤ 7 → T (begins c v n (word 7 (val (view s p 7)))) → StandsAt s p c v n
+  unfolding begins
+  stands v n few b =
+      let all = words c ++ refused c in
+      let u = and-T (ltb v (length all)) (same (getD all v []) (take n (word 7 (val (view s p 7))))) b in
+      record {
+        inside = ltb→lt _ _ (u .0);
+        word = same-eq _ _ (u .1) ∙ ap (take n) (rw length-view at (word-val (view s p 7))) ∙ take-view s p n 7 few;
+      }
+
+  lacks : e ≡ 0 → StandsAt s p c (length (words c)) 7
+  lacks h = stands _ 7 (omega arith) (entry-lacking s p c e told h)
+
+  names : (e ≡ 0 → ⊥) → StandsAt s p c (e / 8) (e % 8)
+  names h = stands (e / 8) (e % 8) (omega arith) (entry-word s p c e told h)
+
   pub column-lacking-cut : e ≡ 0 → m < 7 → No Past ≡ placed p m (unword (column c) (view s p m))
-  column-lacking-cut h l = rw (begins-cut s p m c _ 7 (omega arith) (entry-lacking s p c e told h) l)
+  column-lacking-cut h l = stands-cut m (lacks h) l
 
   pub column-lacking : e ≡ 0 → 7 ≤ m → No Missing ≡ placed p m (unword (column c) (view s p m))
-  column-lacking h l = rw (begins-refused s p m c _ 7 (omega arith) (entry-lacking s p c e told h) l (le-refl _))
+  column-lacking h l = stands-refused m (lacks h) l (le-refl _)
 
   pub column-cut : (e ≡ 0 → ⊥) → m < e % 8 → No Past ≡ placed p m (unword (column c) (view s p m))
-  column-cut h l = rw (begins-cut s p m c (e / 8) (e % 8) (omega arith) (entry-word s p c e told h) l)
+  column-cut h l = stands-cut m (names h) l
 
   pub column-fine : (e ≡ 0 → ⊥) → e % 8 ≤ m → At (e / 8) (p + e % 8) ≡ placed p m (unword (column c) (view s p m))
-  column-fine h l =
-      let next : p + e % 8 ≡ p + (m - (m - e % 8)) = omega arith in
-      rw (
-        begins-fine s p m c (e / 8) (e % 8) (omega arith) (entry-word s p c e told h) l (entry-lt s p c e told h),
-        length-view s (p + e % 8) (m - e % 8),
-      )
-      (ap (At (e / 8)) next)
+  column-fine h l = stands-fine m (names h) l (entry-lt s p c e told h)

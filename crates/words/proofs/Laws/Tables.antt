@@ -4,13 +4,16 @@ use mathlib.Core.Path.{_≡_}
 use mathlib.Core.List.{List, [], _∷_, _++_, map}
 use Prim.Native.Nat.{ℕ, zero, suc, _-_, _≤_, _<_}
 use lib.Dec.{T, ltb}
+use lib.ListN.{length}
 use borrow.Author.Tests.{lt-ltb, le-ltb, ltb-true, ltb-false}
 use Rattle.ground.proofs.Laws.Cases.{by-bool}
 use Rattle.bits.specs.Bits.{word}
 use Rattle.bits.specs.Codings.{fixed}
 use Rattle.bits.proofs.Laws.Codings.{prefixFree, apart, apartAll, Good}
 use Rattle.bits.proofs.Laws.Codecs.{GoodAll}
-use Rattle.words.specs.Tables.{words, refused, lacking, columnOf, table16, table20, column, coding}
+use Rattle.norm_words.specs.Table16.{table16}
+use Rattle.norm_words.proofs.Laws.Shape.{free16, long16}
+use Rattle.words.specs.Tables.{words, refused, lacking, columnOf, table20, column, coding}
 
 pub coding-fixed : (kind : ℕ) → kind < 16 → coding kind ≡ fixed kind
 unfolding coding
@@ -22,12 +25,12 @@ coding-column kind h = rw (le-ltb kind 16 h)
 
 -- no word of a column begins another, the lacking word among them
 pub free-words : (c : ℕ) → T (prefixFree (words c ++ refused c))
-unfolding words refused lacking columnOf table16 table20 prefixFree apart apartAll word
+unfolding words refused lacking columnOf table20 prefixFree apart apartAll word
 free-words zero = tt
 free-words (suc zero) = tt
 free-words (suc (suc zero)) = tt
 free-words (suc (suc (suc zero))) = tt
-free-words (suc (suc (suc (suc n)))) = tt
+free-words (suc (suc (suc (suc n)))) = free16
 
 -- each kind's coding obeys both laws
 pub good-coding : (kind : ℕ) → Good (coding kind)
@@ -39,3 +42,8 @@ good-coding kind =
 pub all-good : (kinds : List ℕ) → GoodAll (map coding kinds)
 all-good [] = tt
 all-good (k ∷ kinds) = (good-coding k, all-good kinds)
+
+-- Table 16 has 32 words
+pub size16 : length (words 4) ≡ 32
+unfolding words
+size16 = long16

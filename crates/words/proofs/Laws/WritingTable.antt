@@ -16,26 +16,16 @@ use Rattle.bits.proofs.Laws.LaidBits.{laid-none}
 use Rattle.ground.proofs.Laws.Cases.{by-bool, and-T}
 use borrow.Author.Tests.{ltb-true, ltb-false}
 use Rattle.bits.specs.Codings.{Coding, wordOf, fit}
-use Rattle.words.specs.Tables.{words, column, coding, columnOf, table16, table20}
-use Rattle.words.proofs.Laws.Tables.{coding-fixed, coding-column}
-use Rattle.words.proofs.Laws.Answers.{coding-found}
-use Rattle.words.specs.Inner.{packed, startOf}
+use Rattle.norm_words.specs.Table16.{table16}
+use Rattle.norm_words.specs.Shape.{spelling}
+use Rattle.norm_words.specs.declared.Spelling.{Spelling}
+use Rattle.norm_words.proofs.Laws.Shape.{shape-writes}
+use Rattle.words.specs.Tables.{words, column, coding, columnOf, table20}
+use Rattle.words.proofs.Laws.Tables.{coding-fixed, coding-column, size16}
+use Rattle.words.proofs.Laws.Answers.{coding-bits, coding-code, coding-norm}
+use Rattle.words.specs.Inner.{packed}
 use Rattle.bits.proofs.Laws.Codings.{word-fixed}
 use Rattle.words.specs.WritingTable.{writingTable}
-
-pub start-next : (c : ℕ) → startOf (suc c) ≡ startOf c + length (words c)
-unfolding startOf
-start-next c = refl
-
--- all columns together have 92 words
-pub start-end : (c : ℕ) → c < 5 → startOf (suc c) ≤ 92
-unfolding startOf words columnOf table16 table20
-start-end zero h = omega arith
-start-end (suc zero) h = omega arith
-start-end (suc (suc zero)) h = omega arith
-start-end (suc (suc (suc zero))) h = omega arith
-start-end (suc (suc (suc (suc zero)))) h = omega arith
-start-end (suc (suc (suc (suc (suc c))))) h = absurd (omega arith)
 
 -- no word has more than seven bits
 short : (c : ℕ) → T (every (λ (v : ℕ) (w : List Bool). ltb (length w) 8) 0 (words c))
@@ -64,29 +54,31 @@ word-column c v = refl
 -- ---- what the code finds for a number x of a kind, both as they stand in its wider locals
 
 module _ (kind v : ℕ) {k x : ℕ} (q : k ≡ kind) (y : x ≡ v) where
+  same-word : {c : Coding} → coding kind ≡ c → wordOf c x ≡ wordOf (coding kind) v
+  same-word e = ap₂ wordOf (sym e) y
+
+  same-fit : {c : Coding} → coding kind ≡ c → fit c x ≡ fit (coding kind) v
+  same-fit e = ap₂ fit (sym e) y
+
   pub written-fixed : k < 16 → word k x ≡ wordOf (coding kind) v
-  unfolding wordOf
-  written-fixed h = ap (word k) y ∙ sym (ap (λ (c : ℕ). wordOf (coding c) v) (sym q) ∙ ap (λ (c : Coding). wordOf c v) (coding-fixed k h))
+  written-fixed h = sym (word-fixed k x) ∙ same-word (coding-bits q h)
+
+  pub written-column : {w : List Bool} → 16 ≤ k → w ≡ wordOf (column (k - 16)) x → w ≡ wordOf (coding kind) v
+  written-column h e = e ∙ same-word (coding-code q h)
+
+  pub written-norm : {s : Spelling} → 20 ≤ k → s ≡ spelling x → word (s .bits) (s .value) ≡ wordOf (coding kind) v
+  unfolding words
+  written-norm h e =
+      ap (λ (z : Spelling). word (z .bits) (z .value)) e ∙ shape-writes x ∙ sym (word-column 4 x) ∙ same-word (coding-norm q h)
 
   pub fit-fixed : k < 16 → ltb x (1 * 2 ^ k % 2 ^ 64) ≡ fit (coding kind) v
-  fit-fixed h =
-      ap (ltb x) (shifted-one k (omega arith)) ∙ ap (λ (z : ℕ). ltb z (2 ^ k)) y
-      ∙ sym (ap (λ (c : ℕ). fit (coding c) v) (sym q) ∙ ap (λ (c : Coding). fit c v) (coding-fixed k h))
+  fit-fixed h = ap (ltb x) (shifted-one k (omega arith)) ∙ same-fit (coding-bits q h)
 
-  module _ (c : ℕ) (h : 16 ≤ k) (e : column c ≡ column (k - 16)) where
-    the-word : wordOf (coding kind) v ≡ getD (words c) x []
-    unfolding wordOf
-    the-word = ap (λ (z : Coding). wordOf z v) (coding-found kind k c q h e) ∙ ap (λ (z : ℕ). getD (words c) z []) (sym y)
+  pub fit-column : {n : ℕ} → 16 ≤ k → n ≡ length (words (k - 16)) → ltb x n ≡ fit (coding kind) v
+  fit-column h e = ap (ltb x) e ∙ same-fit (coding-code q h)
 
-    pub written-none : {n : ℕ} → n ≡ length (words c) → n ≤ x → word 0 0 ≡ wordOf (coding kind) v
-    unfolding word
-    written-none e l = sym (the-word ∙ List·getD-eq-default (words c) [] (omega arith))
-
-    pub written-word : {n m : ℕ} → m ≡ length (words c) → x < m → n ≡ packed (getD (words c) x []) → word (n % 8) (n / 8) ≡ wordOf (coding kind) v
-    written-word {n} e l p = unpacked (getD (words c) x []) n (words-short c x (omega arith)) p ∙ sym the-word
-
-    pub fit-column : {n : ℕ} → n ≡ length (words c) → ltb x n ≡ fit (coding kind) v
-    fit-column g = ap (ltb x) g ∙ ap (λ (z : ℕ). ltb z (length (words c))) y ∙ sym (ap (λ (z : Coding). fit z v) (coding-found kind k c q h e))
+  pub fit-norm : 20 ≤ k → ltb x 32 ≡ fit (coding kind) v
+  fit-norm h = ap (ltb x) (sym size16) ∙ same-fit (coding-norm q h)
 
 -- no word has more than 16 bits
 pub word-few : (kind v : ℕ) → length (wordOf (coding kind) v) ≤ 16
@@ -99,41 +91,71 @@ word-few kind v =
     (λ f. rw (coding-column kind h) (omega (arith, words-short (kind - 16) v (ltb-true v _ f))))
     (λ f. rw (coding-column kind h, List·getD-eq-default (words (kind - 16)) [] (ltb-false v _ f)) (omega arith)))
 
+-- ---- the table of a column's words
+
+-- a column of Table 20 has as many words as there are numbers of its rate
+sized : (c : ℕ) → c < 4 → 4 * 2 ^ c % 2 ^ 64 ≡ length (words c)
+unfolding words columnOf table20
+sized zero h = refl
+sized (suc zero) h = refl
+sized (suc (suc zero)) h = refl
+sized (suc (suc (suc zero))) h = refl
+sized (suc (suc (suc (suc c)))) h = absurd (omega arith)
+
+many : (c : ℕ) → c < 4 → (4 ≤ length (words c)) × (length (words c) ≤ 32)
+unfolding words columnOf table20
+many zero h = (omega arith, omega arith)
+many (suc zero) h = (omega arith, omega arith)
+many (suc (suc zero)) h = (omega arith, omega arith)
+many (suc (suc (suc zero))) h = (omega arith, omega arith)
+many (suc (suc (suc (suc c)))) h = absurd (omega arith)
+
+pub size-is : (c : ℕ) → c < 4 → (4 * 2 ^ c % 2 ^ 64 ≡ length (words c)) × (4 ≤ 4 * 2 ^ c % 2 ^ 64)
+size-is c h = (sized c h, rw (sized c h) (many c h .0))
+
+-- so it begins after the smaller ones, as many places on as it has words itself, less four
 rule : ℕ → ℕ → ℕ → Bool
 rule c v e = eqb e (packed (getD (words c) v []))
 
 part : ℕ → List ℕ
-part c = take (length (words c)) (drop (startOf c) writingTable)
+part c = take (length (words c)) (drop (length (words c) - 4) writingTable)
 
-tested : (c : ℕ) → c < 5 → T (every (rule c) 0 (part c))
-unfolding writingTable rule part packed startOf words columnOf table16 table20 word val
+tested : (c : ℕ) → c < 4 → T (every (rule c) 0 (part c))
+unfolding writingTable rule part packed words columnOf table20 word val
 tested zero h = tt
 tested (suc zero) h = tt
 tested (suc (suc zero)) h = tt
 tested (suc (suc (suc zero))) h = tt
-tested (suc (suc (suc (suc zero)))) h = tt
-tested (suc (suc (suc (suc (suc c))))) h = absurd (omega arith)
+tested (suc (suc (suc (suc c)))) h = absurd (omega arith)
 
-pub writing-long : length writingTable ≡ 92
+writing-long : length writingTable ≡ 60
 unfolding writingTable
 writing-long = refl
 
-pub entry : (c v : ℕ) → c < 5 → v < length (words c) → getD writingTable (startOf c + v) 0 ≡ packed (getD (words c) v [])
+entry : (c v : ℕ) → c < 4 → v < length (words c) → getD writingTable (length (words c) - 4 + v) 0 ≡ packed (getD (words c) v [])
 unfolding rule part
 entry c v h l =
     let n = length (words c) in
-    let room : length (part c) ≡ n = omega
-    (arith, length-take n (drop (startOf c) writingTable), length-drop (startOf c) writingTable, writing-long, start-next c, start-end c h) in
-    sym (getD-take n (drop (startOf c) writingTable) v 0 l ∙ getD-drop (startOf c) writingTable v 0)
+    let room : length (part c) ≡ n = omega (arith, length-take n (drop (n - 4) writingTable), length-drop (n - 4) writingTable, writing-long, many c h) in
+    sym (getD-take n (drop (n - 4) writingTable) v 0 l ∙ getD-drop (n - 4) writingTable v 0)
     ∙ eqb→eq (getD (part c) v 0) (packed (getD (words c) v [])) (every-at (rule c) (part c) 0 (tested c h) v (omega arith))
 
 -- the place that the code reads lies within the table, and the entry is the word
-module _ {c v a : ℕ} {table : List ℕ} (p : (table ≡ writingTable) × (c < 5) × (v < length (words c))) (s : (a ≡ startOf c) × (a ≤ 92)) where
-  pub writing-inside : a + v < 92
-  writing-inside = omega (arith, s .0, p .2, start-next c, start-end c (p .1))
+module _ {c v n : ℕ} {table : List ℕ} (p : (table ≡ writingTable) × (c < 4) × (v < length (words c))) (s : (n ≡ length (words c)) × (4 ≤ n)) where
+  pub writing-inside : n - 4 + v < 60
+  writing-inside = omega (arith, s .0, s .1, p .2, many c (p .1))
 
-  pub writing-entry-is : {e : ℕ} → e ≡ getD table (a + v) 0 → e ≡ packed (getD (words c) v [])
-  writing-entry-is q = q ∙ ap (λ (l : List ℕ). getD l (a + v) 0) (p .0) ∙ ap (λ (k : ℕ). getD writingTable (k + v) 0) (s .0) ∙ entry c v (p .1) (p .2)
+  pub writing-entry-is : {e : ℕ} → e ≡ getD table (n - 4 + v) 0 → e ≡ packed (getD (words c) v [])
+  writing-entry-is q =
+      q ∙ ap (λ (l : List ℕ). getD l (n - 4 + v) 0) (p .0) ∙ ap (λ (k : ℕ). getD writingTable (k - 4 + v) 0) (s .0) ∙ entry c v (p .1) (p .2)
+
+-- a number without a word, and the word back from its entry
+pub spelt-none : (c n x : ℕ) → n ≡ length (words c) → n ≤ x → word 0 0 ≡ wordOf (column c) x
+unfolding word
+spelt-none c n x e l = sym (word-column c x ∙ List·getD-eq-default (words c) [] (omega arith))
+
+pub spelt-word : (c n e x : ℕ) → n ≡ length (words c) → x < n → e ≡ packed (getD (words c) x []) → word (e % 8) (e / 8) ≡ wordOf (column c) x
+spelt-word c n e x g l p = unpacked (getD (words c) x []) e (words-short c x (omega arith)) p ∙ sym (word-column c x)
 
 -- ---- what is spelt is laid
 
@@ -156,21 +178,3 @@ none-long kind v e = sym (ap length (word-none kind v e))
 
 pub none-laid : (kind v : ℕ) (s : List ℕ) (at : ℕ) → kind ≡ 0 → Bytes s → s ≡ laid s at (wordOf (coding kind) v)
 none-laid kind v s at e h = sym (ap (laid s at) (word-none kind v e) ∙ laid-none s at h)
-
--- ---- where the columns begin, as the code has it
-
-abbrev pub starts : List ℕ
-starts = 0 ∷ 4 ∷ 12 ∷ 28 ∷ 60 ∷ 92 ∷ []
-
-start-rule : ℕ → ℕ → Bool
-start-rule c x = eqb x (startOf c) && leb x 92
-
-pub start-right : (c : ℕ) → c < 6 → (getD starts c 0 ≡ startOf c) × (getD starts c 0 ≤ 92)
-unfolding start-rule startOf words columnOf table16 table20
-start-right c h =
-    let x = getD starts c 0 in
-    let t = and-T (eqb x (startOf c)) (leb x 92) (every-at start-rule starts 0 tt c h) in
-    (eqb→eq x (startOf c) (t .0), leb→le x 92 (t .1))
-
-pub start-more : (c : ℕ) → startOf (c + 1) ≡ startOf c + length (words c)
-start-more c = ap startOf (add-one c) ∙ start-next c

@@ -1,7 +1,6 @@
--- `words::read_word_by` meets its contract: nothing at an unused place, a column's word, or as many bits. Assumes nothing.
+-- `words::read_word_by` meets its contract: nothing at an unused place, as many bits, a column's word, or a norm word. Assumes nothing.
 use mathlib.Core.Path.{_∙_}
-use Rattle.bits.proofs.Laws.Views.{read-lt}
-use Rattle.words.proofs.Laws.Answers.{at-none, at-column, at-past, at-fixed}
+use Rattle.words.proofs.Laws.Answers.{at-none, at-fixed, at-column, at-norm}
 use borrow.Author.Needs.{needs}
 use Rattle.words.proofs.read_word_by.Statement.{statement}
 use Rattle.words.proofs.read_word_by.Tie as tie
@@ -14,10 +13,9 @@ read-word-by-spec =
     (λ c κs. search needs)
     (λ c κs. search needs)
     (λ c κs. search needs)
+    (λ c. search (at-fixed, _∙_))
+    (λ c. search needs)
     (λ c κs. search needs)
     (λ c. search (at-column, _∙_))
-    (λ c. search at-past)
     (λ c κs. search needs)
-    (λ c. record { fits = search read-lt })
-    (λ c. search needs)
-    (λ c. search at-fixed))
+    (λ c. search (at-norm, _∙_)))

@@ -10,8 +10,9 @@ writing-entry-spec =
     tie.close
     (tie.spec
     (λ c κs. search needs)
-    (λ c. omega (arith, writing-inside (c .before .pre) (c .start-of .ensures)))
-    (λ c. omega (arith, writing-inside (c .before .pre) (c .start-of .ensures)))
-    (λ c. omega (arith, writing-inside (c .before .pre) (c .start-of .ensures)))
+    (λ c. search needs)
+    (λ c. omega (arith, writing-inside (c .before .pre) (c .size-of .ensures)))
+    (λ c. omega (arith, writing-inside (c .before .pre) (c .size-of .ensures)))
+    (λ c. omega (arith, writing-inside (c .before .pre) (c .size-of .ensures)))
     (λ c κs. search needs)
     (λ c. (search writing-entry-is, search needs)))

@@ -1,0 +1,2 @@
+pub mod Table16
+pub mod Shape
