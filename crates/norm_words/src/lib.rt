@@ -1,6 +1,6 @@
 // The words of norms (Table 16) by their shape (02, No. 3): neither the words nor a look-up of them stands in the code.
 ghost use mathlib.Core.Path.{_≡_};
-ghost use Prim.Native.Nat.{_≤_};
+ghost use Prim.Native.Nat.{_≤_, _<_};
 ghost use Rattle.norm_words.specs.Shape.{wordIn, middle, atLeast, moreBits, sevenOf, spelling, stepSize};
 use ground::numbers::size_from_u8;
 
@@ -86,7 +86,7 @@ fn seven_of(number: u8, far: u8) -> u8
 
 // The word of a number: it begins with the number's last two bits, and is the longer the further the number is from the middle. No bits from 32 on.
 pub fn spelling_of(number: usize) -> Spelling
-    ensures { λ r. ⌜ (r ≡ spelling number) × (r .bits ≤ 7) ⌝ }
+    ensures { λ r. ⌜ (r ≡ spelling number) × (r .bits ≤ 7) × (r .value < 256) ⌝ }
 {
     if 31 < number {
         return Spelling { bits: 0, value: 0 };

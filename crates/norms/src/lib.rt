@@ -134,7 +134,7 @@ pub fn write_norms(s: &mut [u8], at: usize, transient: bool, flag_n: bool, norms
 {
     let kinds = norm_kinds(flag_n);
     let ws = numbers_of(order::sent_order(transient, norms));
-    runs::write_words(s, at, &kinds, &ws)
+    runs::write_pairs(s, at, &kinds, &ws)
 }
 
 // How many bits the norm part has.

@@ -1,12 +1,12 @@
 // Words one after the other: a run of kinds, read into a lent slice, written from one, and counted.
 ghost use mathlib.Core.Path.{_≡_};
 ghost use mathlib.Core.List.{map};
-ghost use Prim.Native.Nat.{ℕ, _+_, _-_, _*_, _≤_, _<_};
+ghost use Prim.Native.Nat.{ℕ, _+_, _-_, _*_, _%_, _≤_, _<_};
 ghost use lib.Dec.{T};
 ghost use lib.ListN.{length, getD};
 ghost use Rattle.bits.specs.Bits.{laid};
 ghost use Rattle.bits.specs.Codecs.{writeAll};
-ghost use Rattle.words.specs.Tables.{coding, shaped};
+ghost use Rattle.words.specs.Tables.{coding, shaped, short};
 ghost use Rattle.words.specs.ReadingTable.{readingTable};
 ghost use Rattle.words.specs.WritingTable.{writingTable};
 ghost use Rattle.runs.specs.Runs.{ran, runAt, readSome, over, passedUp, runReply};
@@ -120,6 +120,29 @@ pub fn write_words(s: &mut [u8], at: usize, kinds: &[u8], numbers: &[u16]) -> us
 {
     let table = words::tables::WRITING;
     write_run(&table, s, at, kinds, numbers)
+}
+
+// Writes the words of an even count of kinds, all of at most eight bits and none that needs a table, two at a time.
+pub fn write_pairs(s: &mut [u8], at: usize, kinds: &[u8], numbers: &[u16]) -> usize
+    requires { ⌜ (length (now kinds) ≡ length (now numbers)) × (length (now kinds) % 2 ≡ 0) × (at + 16 * length (now kinds) < 18446744073709551616)
+        × ((i : ℕ) → i < length (now kinds) → T (short (getD (now kinds) i 0))) ⌝ }
+    ensures { λ r. ⌜ (r ≡ length (writeAll (map coding (now (kinds .entry))) (now (numbers .entry))))
+        × (now (s .exit) ≡ laid (now (s .entry)) at (writeAll (map coding (now (kinds .entry))) (now (numbers .entry)))) ⌝ }
+{
+    let mut n: usize = 0;
+    let mut i: usize = 0;
+    while i < kinds.len() {
+        n += words::write_pair(
+            s,
+            at + n,
+            kinds[i],
+            numbers[i],
+            kinds[i + 1],
+            numbers[i + 1],
+        );
+        i += 2;
+    }
+    n
 }
 
 // The count by lent words.

@@ -88,6 +88,10 @@ normWords = 20
 abbrev pub shaped : ℕ → Bool
 shaped kind = cond (ltb kind firstWords) true (leb normWords kind)
 
+-- one whose words have at most eight bits as well
+abbrev pub short : ℕ → Bool
+short kind = cond (leb kind 8) true (leb normWords kind)
+
 -- what stands at one place of a frame. Kinds below the first words are as many bits (of 0 bits: an unused place); then come the words of rates 2 to 5, and
 -- from normWords on those of Table 16
 unfoldable pub coding : ℕ → Coding

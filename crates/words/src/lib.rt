@@ -4,10 +4,10 @@ ghost use mathlib.Core.Path.{_≡_};
 ghost use Prim.Native.Nat.{_+_, _*_, _≤_, _<_};
 ghost use lib.Dec.{T};
 ghost use lib.ListN.{length, getD};
-ghost use mathlib.Core.List.{[]};
+ghost use mathlib.Core.List.{[], _++_};
 ghost use Rattle.bits.specs.Bits.{word, view, laid};
 ghost use Rattle.bits.specs.Codings.{fixed, unword, wordOf, fit};
-ghost use Rattle.words.specs.Tables.{words, column, coding, shaped};
+ghost use Rattle.words.specs.Tables.{words, column, coding, shaped, short};
 ghost use Rattle.words.specs.Answers.{placed, wordAt};
 ghost use Rattle.words.specs.Inner.{right, packed};
 ghost use Rattle.words.specs.ReadingTable.{readingTable};
@@ -156,6 +156,22 @@ fn column_spelling(table: &[u16; 60], c: usize, v: usize) -> Spelling
     }
 }
 
+// The word for a number of a kind that needs no table and has at most eight bits; no bits where it has none.
+fn short_spelling(kind: u8, v: u16) -> Spelling
+    requires { ⌜ T (short kind) ⌝ }
+    ensures { λ r. ⌜ (word (r .bits) (r .value) ≡ wordOf (coding kind) v) × (r .bits ≤ 8) × (r .value < 65536) ⌝ }
+{
+    let kind = size_from_u8(kind);
+    let v = size_from_u16(v);
+    if kind < FIRST_WORDS {
+        return Spelling {
+            bits: kind,
+            value: v,
+        };
+    }
+    norm_words::spelling_of(v)
+}
+
 // The word of a kind for a number; no bits where it has none.
 fn word_of(table: &[u16; 60], kind: u8, v: u16) -> Spelling
     requires { ⌜ now table ≡ writingTable ⌝ }
@@ -194,6 +210,20 @@ pub fn write_word(s: &mut [u8], at: usize, kind: u8, v: u16) -> usize
 {
     let table = tables::WRITING;
     write_word_by(&table, s, at, kind, v)
+}
+
+// Writes the words for two numbers, one behind the other and at once, and gives their length.
+pub fn write_pair(s: &mut [u8], at: usize, first: u8, a: u16, second: u8, b: u16) -> usize
+    requires { ⌜ T (short first) × T (short second) ⌝ }
+    ensures { λ r. ⌜ (r ≡ length (wordOf (coding first) a ++ wordOf (coding second) b))
+        × (now (s .exit) ≡ laid (now (s .entry)) at (wordOf (coding first) a ++ wordOf (coding second) b)) ⌝ }
+{
+    let x = short_spelling(first, a);
+    let y = short_spelling(second, b);
+    let m = y.bits;
+    let n = x.bits + m;
+    bits::write_bits(s, at, n, (x.value << m) + y.value % (1 << m));
+    n
 }
 
 // The words of all columns of Table 20, to be lent.

@@ -62,6 +62,13 @@ word-add zero m v = ap (λ (k : ℕ). word k v) (zero-add m)
 word-add (suc n) m v =
     rw suc-add (ap₂ _∷_ (ap (λ (k : ℕ). odd (v / 2 ^ k)) (add-comm n m) ∙ sym (ap odd (shr-shr v m n))) (word-add n m v))
 
+-- two words, one behind the other, as one
+pub word-two : (n v m w : ℕ) → word (n + m) (v * 2 ^ m + w % 2 ^ m) ≡ word n v ++ word m w
+word-two n v m w =
+    let x = v * 2 ^ m + w % 2 ^ m in
+    let top : x / 2 ^ m ≡ v = high v m (mod-lt w (pow-pos m)) in
+    word-add n m x ∙ ap₂ _++_ (ap (word n) top) (word-high m v (w % 2 ^ m) ∙ word-mod m w)
+
 -- ---- val
 
 pub val-lt : (bs : List Bool) → val bs < 2 ^ length bs

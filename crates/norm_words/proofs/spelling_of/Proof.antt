@@ -9,7 +9,7 @@ pub spelling-of-spec : {M : Type 1} → statement M
 spelling-of-spec =
     tie.close
     (tie.spec
-    (λ c. (search spelt-none, omega arith))
+    (λ c. (search spelt-none, omega arith, omega arith))
     (λ c. search needs)
     (λ c κs. search needs)
     (λ c κs. search needs)
@@ -19,4 +19,4 @@ spelling-of-spec =
     (λ c. search needs)
     (λ c. search needs)
     (λ c κs. search needs)
-    (λ c. (search spelt, omega arith)))
+    (λ c. (search spelt, omega arith, omega arith)))

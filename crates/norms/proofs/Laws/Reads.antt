@@ -14,7 +14,7 @@ use Rattle.bits.specs.Codings.{got}
 use Rattle.bits.specs.Codecs.{Verdict, fine, bad, readAll}
 use Rattle.bits.specs.declared.Refusal.{Refusal}
 use Rattle.bits.specs.declared.Refusal.the-variants.{Outside}
-use Rattle.words.specs.Tables.{coding, shaped}
+use Rattle.words.specs.Tables.{coding, shaped, short}
 use Rattle.runs.specs.Runs.{runAt, ran, runReply, readSome, over}
 use Rattle.runs.proofs.Laws.Runs.{run-not, run-filled}
 use Rattle.runs.specs.declared.Run.{Run}
@@ -28,7 +28,7 @@ use Rattle.norms.specs.Inner.{indicesOf}
 use Rattle.norms.specs.declared.Indices.{Indices}
 use lib.Dec.{T, leb}
 
--- no kind of the numbers needs a look-up
+-- no kind of the numbers needs a table, nor more than eight bits
 all-shaped : (f : Bool) → T (every (λ (i k : ℕ). shaped k) 0 (normKinds f))
 unfolding normKinds
 all-shaped true = tt
@@ -36,6 +36,14 @@ all-shaped false = tt
 
 pub kinds-shaped : (flagN : Bool) {kinds : List ℕ} → kinds ≡ normKinds flagN → (i : ℕ) → i < length kinds → T (shaped (getD kinds i 0))
 kinds-shaped flagN {kinds} e = every-at (λ (i k : ℕ). shaped k) kinds 0 (rw e (all-shaped flagN))
+
+all-short : (f : Bool) → T (every (λ (i k : ℕ). short k) 0 (normKinds f))
+unfolding normKinds
+all-short true = tt
+all-short false = tt
+
+pub kinds-short : (flagN : Bool) {kinds : List ℕ} → kinds ≡ normKinds flagN → (i : ℕ) → i < length kinds → T (short (getD kinds i 0))
+kinds-short flagN {kinds} e = every-at (λ (i k : ℕ). short k) kinds 0 (rw e (all-short flagN))
 
 -- an index is refused with 5 alone
 guarded-bad : (a b : Bool) (y : ℕ) (c : Verdict (List ℕ)) (x : Refusal) → ((z : Refusal) → c ≡ bad z → z ≡ Outside) → guarded a b y c ≡ bad x → x ≡ Outside

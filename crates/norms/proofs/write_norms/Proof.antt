@@ -1,5 +1,6 @@
 -- `norms::write_norms` meets its contract: the run is laid. Assumes nothing.
 use Rattle.norms.proofs.Laws.Part.{bits-made, bits-laid}
+use Rattle.norms.proofs.Laws.Reads.{kinds-short}
 use borrow.Author.Needs.{needs}
 use Rattle.norms.proofs.write_norms.Statement.{statement}
 use Rattle.norms.proofs.write_norms.Tie as tie
@@ -13,6 +14,6 @@ write-norms-spec =
     (λ c κs. search needs)
     (λ c. search needs)
     (λ c. search needs)
-    (λ c κs. search needs)
+    (λ c κs. (search needs, search needs, search needs, search kinds-short))
     (λ c. search needs)
     (λ c. (search bits-made, search bits-laid)))

@@ -1,0 +1,17 @@
+-- `words::short_spelling` meets its contract: the number itself, or a norm word. Assumes nothing.
+use native.Mathlib.Omega.{arith}
+use Rattle.words.proofs.Laws.Answers.{short-norm, short-bits}
+use Rattle.words.proofs.Laws.WritingTable.{written-fixed, written-norm}
+use borrow.Author.Needs.{needs}
+use Rattle.words.proofs.short_spelling.Statement.{statement}
+use Rattle.words.proofs.short_spelling.Tie as tie
+
+pub short-spelling-spec : {M : Type 1} → statement M
+short-spelling-spec =
+    tie.close
+    (tie.spec
+    (λ c κs. search needs)
+    (λ c κs. search needs)
+    (λ c. (search written-fixed, search short-bits, search needs))
+    (λ c κs. search needs)
+    (λ c. (search (written-norm, short-norm), omega arith, omega arith)))

@@ -1,0 +1,31 @@
+-- `words::write_pair` meets its contract: two words made one are laid at once. Assumes nothing.
+use native.Mathlib.Omega.{arith}
+use Rattle.bits.proofs.Laws.NumbersAsBits.{shifted-pos}
+use Rattle.words.proofs.Laws.WritingTable.{pair-fits, pair-long, pair-laid}
+use borrow.Author.Needs.{needs}
+use Rattle.words.proofs.write_pair.Statement.{statement}
+use Rattle.words.proofs.write_pair.Tie as tie
+
+returns : tie.Need-returns
+returns c =
+    let w : tie.After-write-bits = search in
+    let y : tie.After-short-spelling2 = search in
+    let x : tie.After-short-spelling = search in
+    let a = x .short-spelling .ensures in
+    let b = y .short-spelling2 .ensures in
+    (pair-long a b, pair-laid a b _ _ _ (w .write-bits .ensures))
+
+pub write-pair-spec : {M : Type 1} → statement M
+write-pair-spec =
+    tie.close
+    (tie.spec
+    (λ c κs. search needs)
+    (λ c κs. search needs)
+    (λ c. search needs)
+    (λ c. search needs)
+    (λ c. search needs)
+    (λ c. shifted-pos _ (omega arith))
+    (λ c. let y : tie.After-short-spelling2 = search in let x : tie.After-short-spelling = search in record { fits = pair-fits (x .short-spelling .ensures) (y .short-spelling2 .ensures) })
+    (λ c κs. search needs)
+    (λ c. search needs)
+    returns)
