@@ -54,6 +54,10 @@ spelling v =
 
 -- ---- counting
 
+-- 1 where the step from x to y is over 16, so that its number has no word
+unfoldable pub beyond : ℕ → ℕ → ℕ
+beyond x y = cond (ltb x y) (atLeast (y - x) 17) 0
+
 -- how far the number y + 15 - x of the step from x to y is from the middle
 unfoldable pub stepSize : ℕ → ℕ → ℕ
 stepSize x y = cond (ltb x y) (y - x - 1) (x - y)

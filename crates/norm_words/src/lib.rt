@@ -1,7 +1,7 @@
 // The words of norms (Table 16) by their shape (02, No. 3): neither the words nor a look-up of them stands in the code.
 ghost use mathlib.Core.Path.{_≡_};
 ghost use Prim.Native.Nat.{_≤_, _<_};
-ghost use Rattle.norm_words.specs.Shape.{wordIn, middle, atLeast, moreBits, sevenOf, spelling, stepSize};
+ghost use Rattle.norm_words.specs.Shape.{wordIn, middle, atLeast, moreBits, sevenOf, spelling, stepSize, beyond};
 use ground::numbers::size_from_u8;
 
 // A word among seven bits: the number that it names, and how many of the bits it has.
@@ -99,6 +99,16 @@ pub fn spelling_of(number: usize) -> Spelling
         bits: size_from_u8(3 + more),
         value: size_from_u8(seven >> (4 - more)),
     }
+}
+
+// 1 where a step goes up by more than 16, so that its number has no word.
+pub fn beyond(x: u8, y: u8) -> u8
+    ensures { λ r. ⌜ (r ≡ beyond x y) × (r ≤ 1) ⌝ }
+{
+    if x < y {
+        return at_least(y - x, 17);
+    }
+    0
 }
 
 // How far the number of the step from one index to the next is from the middle.

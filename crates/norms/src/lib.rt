@@ -1,10 +1,10 @@
 // The 44 norm indices as they stand in a frame: read, written and counted, and the FlagN choice (7.4, 8.2).
 ghost use mathlib.Core.Path.{_≡_};
-ghost use mathlib.Core.Bool.{cond};
 ghost use Prim.Native.Nat.{_+_, _-_, _≤_, _<_};
-ghost use lib.Dec.{T};
+ghost use lib.Dec.{leb};
 ghost use lib.ListN.{length};
 ghost use Rattle.bits.specs.Bits.{view, laid};
+ghost use Rattle.order.specs.SentOrder.{sent};
 ghost use Rattle.norms.specs.Steps.{indices, numbers, stepsClose};
 ghost use Rattle.norms.specs.Part.{normKinds, normPart, normBits};
 ghost use Rattle.norms.specs.Answers.{partOf, normReply, wordTotal, choiceOf};
@@ -137,32 +137,51 @@ pub fn write_norms(s: &mut [u8], at: usize, transient: bool, flag_n: bool, norms
     runs::write_pairs(s, at, &kinds, &ws)
 }
 
-// How many bits the norm part has.
-pub fn norm_bits(transient: bool, flag_n: bool, norms: [u8; 44]) -> usize
-    ensures { λ r. ⌜ r ≡ length (normBits transient «flag_n» norms) ⌝ }
-{
-    let kinds = norm_kinds(flag_n);
-    let numbers = numbers_of(order::sent_order(transient, norms));
-    runs::run_bits(&kinds, &numbers)
+// The differences of norms in sent order: the furthest of their numbers from the middle, and how many bits their 43 words have.
+struct Steps {
+    far: u8,
+    bits: usize,
 }
 
-// How many bits the 43 words of the differences of indices in sent order have, 0 where a difference is not -15 to 16.
-fn step_bits(ss: [u8; 44]) -> usize
-    ensures { λ r. ⌜ (r ≡ cond (stepsClose ss) (stepTotal ss) 0) × (T (stepsClose ss) → 129 ≤ r) ⌝ }
+// One pass over indices in sent order. A difference is -15 to 16 exactly where its number is at most 15 from the middle.
+fn count_steps(ss: [u8; 44]) -> Steps
+    ensures { λ r. ⌜ (leb (r .far) 15 ≡ stepsClose ss) × (r .bits ≡ stepTotal ss) × (r .bits ≤ 301) ⌝ }
 {
     let mut far: u8 = 0;
     let mut more: u8 = 0;
+    let mut lost: u8 = 0;
     let mut i: usize = 0;
     while i < 43 {
-        let size = norm_words::step_size(ss[i], ss[i + 1]);
+        let x = ss[i];
+        let y = ss[i + 1];
+        let size = norm_words::step_size(x, y);
         far = larger8(far, size);
         more += norm_words::more_bits(size);
+        lost += norm_words::beyond(x, y);
         i += 1;
     }
-    if 15 < far {
-        return 0;
+    Steps {
+        far,
+        bits: 129 + size_from_u8(more) - 7 * size_from_u8(lost),
     }
-    129 + size_from_u8(more)
+}
+
+// The differences of norms in band order.
+fn steps_of(transient: bool, norms: [u8; 44]) -> Steps
+    ensures { λ r. ⌜ (leb (r .far) 15 ≡ stepsClose (sent transient norms)) × (r .bits ≡ wordTotal transient norms) × (r .bits ≤ 301) ⌝ }
+{
+    count_steps(order::sent_order(transient, norms))
+}
+
+// How many bits the norm part has: five for each index, or five for the first and the words of the differences.
+pub fn norm_bits(transient: bool, flag_n: bool, norms: [u8; 44]) -> usize
+    ensures { λ r. ⌜ r ≡ length (normBits transient «flag_n» norms) ⌝ }
+{
+    if !flag_n {
+        return 220;
+    }
+    let steps = steps_of(transient, norms);
+    5 + steps.bits
 }
 
 // What norms are as words: the reply to writing them, and with 0 how many bits the 43 words have.
@@ -187,14 +206,18 @@ fn measure(transient: bool, norms: [u8; 44]) -> Measured
             bits: 0,
         };
     }
-    let bits = step_bits(order::sent_order(transient, norms));
-    if bits == 0 {
+    let steps = steps_of(transient, norms);
+    let far = steps.far;
+    if 15 < far {
         return Measured {
             reply: FAR_APART,
             bits: 0,
         };
     }
-    Measured { reply: DONE, bits }
+    Measured {
+        reply: DONE,
+        bits: steps.bits,
+    }
 }
 
 // Whether norms can be written: 8 for an index over 39 or a first one over 31, then 9 for a difference outside -15 to 16, else 0.

@@ -2,8 +2,9 @@
 -- Assumes nothing.
 use mathlib.Core.Path.{_≡_, refl, sym, ap, _∙_}
 use Prim.Native.Nat.{ℕ, _+_, _-_, _*_, _/_, _%_, _^_, _≤_, _<_}
+use native.Mathlib.Omega.{arith}
 use borrow.Author.Tests.{eq-eqb, ne-eqb, lt-ltb, le-ltb}
-use Rattle.norm_words.specs.Shape.{bitOf, wordIn, middle, atLeast, moreBits, sevenOf, spelling, stepSize}
+use Rattle.norm_words.specs.Shape.{bitOf, wordIn, middle, atLeast, moreBits, sevenOf, spelling, stepSize, beyond}
 use Rattle.norm_words.specs.declared.Found.{Found}
 use Rattle.norm_words.specs.declared.Spelling.{Spelling}
 
@@ -63,6 +64,14 @@ unfolding sevenOf
 seven-are v far a b d ea eb ed = rw (ea, eb, ed)
 
 -- ---- counting
+
+pub beyond-up : (x y : ℕ) {r : ℕ} → x < y → (r ≡ atLeast (y - x) 17) × (r ≤ 1) → (r ≡ beyond x y) × (r ≤ 1)
+unfolding beyond
+beyond-up x y h e = rw (lt-ltb x y h) e
+
+pub beyond-down : (x y : ℕ) → y ≤ x → (0 ≡ beyond x y) × (0 ≤ 1)
+unfolding beyond
+beyond-down x y h = rw (le-ltb x y h) (refl, omega arith)
 
 pub step-up : (x y : ℕ) → x < y → y - x - 1 ≡ stepSize x y
 unfolding stepSize

@@ -6,10 +6,10 @@ use mathlib.Core.Bool.{Bool, _&&_, cond}
 use mathlib.Core.List.{List, [], _∷_, _++_}
 use Prim.Native.Nat.{ℕ, _+_, _-_, _*_, _/_, _%_, _^_, _≤_, _<_}
 use native.Mathlib.Omega.{arith}
-use lib.Dec.{T, eqb, ltb, eqb→eq}
+use lib.Dec.{T, eqb, ltb, leb, eqb→eq}
 use lib.ListN.{length, getD, take, drop, length-append, List·getD-eq-default}
 use lib.Seq.{take-append-seam}
-use borrow.Author.Tests.{lt-ltb, le-ltb, ltb-true, ltb-false}
+use borrow.Author.Tests.{lt-ltb, le-ltb, ltb-true, ltb-false, leb-true, leb-false}
 use Rattle.ground.proofs.Laws.Cases.{and-T, by-bool}
 use Rattle.ground.proofs.Laws.PrintedTables.{every, every-at}
 use Rattle.bits.specs.Bits.{word, val}
@@ -18,7 +18,7 @@ use Rattle.bits.specs.Codings.{prefix, unword, wordOf, find, strip}
 use Rattle.bits.proofs.Laws.Codings.{prefixFree, apart, apartAll, word-unword}
 use Rattle.bits.proofs.Laws.NeverRefused.{NeverRefused, anyBits, any-at, found, never-refused-tested}
 use Rattle.norm_words.specs.Table16.{table16}
-use Rattle.norm_words.specs.Shape.{wordIn, middle, moreBits, sevenOf, spelling, stepSize}
+use Rattle.norm_words.specs.Shape.{wordIn, middle, moreBits, sevenOf, spelling, stepSize, beyond}
 use Rattle.norm_words.specs.declared.Spelling.{Spelling}
 
 -- no word begins another
@@ -118,6 +118,11 @@ shape-writes v =
 
 -- ---- counting: the word of a step has three bits, and more the further its number is from the middle
 
+-- the word of 0 has seven bits
+first-seven : length (getD table16 0 []) ≡ 7
+unfolding table16 word
+first-seven = refl
+
 module _ (x y : ℕ) where
   -- a step is close exactly when its number is at most 15 from the middle
   pub step-close : stepSize x y ≤ 15 → (x ≤ y + 15) × (y ≤ x + 16)
@@ -142,6 +147,33 @@ module _ (x y : ℕ) where
       (λ e. let l = ltb-true x y e in rw (e, le-ltb (y + 15 - x) 16 (omega arith)) (omega arith))
       (λ e. let l = ltb-false x y e in let q : x - y ≤ 15 = rw e at h in rw (e, lt-ltb (y + 15 - x) 16 (omega arith)) (omega arith))
 
+  -- what any step too far has: seven bits if it goes down, as the step to 0 has, none if it goes up
+  far-more : 15 < stepSize x y → moreBits (stepSize x y) ≡ 4
+  unfolding moreBits
+  far-more h = rw (le-ltb (stepSize x y) 2 (omega arith), le-ltb (stepSize x y) 4 (omega arith), le-ltb (stepSize x y) 8 (omega arith))
+
+  too-high : 15 < stepSize x y → x < y → length (getD table16 (y + 15 - x) []) + 7 * beyond x y ≡ 3 + moreBits (stepSize x y)
+  unfolding stepSize beyond
+  too-high h l =
+      let q : 15 < y - x - 1 = rw (lt-ltb x y l) at h in
+      let one : beyond x y ≡ 1 = rw (lt-ltb x y l, le-ltb (y - x) 17 (omega arith)) in
+      omega (arith, one, far-more h, ap length (List·getD-eq-default table16 [] {n = y + 15 - x} (omega (arith, long16))))
+
+  too-low : 15 < stepSize x y → y ≤ x → length (getD table16 (y + 15 - x) []) + 7 * beyond x y ≡ 3 + moreBits (stepSize x y)
+  unfolding stepSize beyond
+  too-low h l =
+      let q : 15 < x - y = rw (le-ltb x y l) at h in
+      let none : beyond x y ≡ 0 = rw (le-ltb x y l) in
+      let z : y + 15 - x ≡ 0 = omega arith in
+      omega (arith, none, far-more h, ap (λ (v : ℕ). length (getD table16 v [])) z, first-seven)
+
+  near-beyond : stepSize x y ≤ 15 → beyond x y ≡ 0
+  unfolding stepSize beyond
+  near-beyond h =
+      by-bool (ltb x y)
+      (λ e. let l = ltb-true x y e in let q : y - x - 1 ≤ 15 = rw e at h in rw (e, lt-ltb (y - x) 17 (omega arith)))
+      (λ e. rw e)
+
   pub step-bits : stepSize x y ≤ 15 → 3 + moreBits (stepSize x y) ≡ length (getD table16 (y + 15 - x) [])
   unfolding spelling
   step-bits h =
@@ -150,3 +182,11 @@ module _ (x y : ℕ) where
       let l : v < 32 = omega (arith, c .0, c .1) in
       let n : spelling v .bits ≡ 3 + moreBits (middle v) = rw (le-ltb 31 v (omega arith)) in
       ap (λ (k : ℕ). 3 + moreBits k) (sym (step-middle h)) ∙ sym n ∙ shape-is-table v l .bits
+
+  -- of any step: a number under 0 counts as 0, and one over 31 has no word
+  pub any-bits : length (getD table16 (y + 15 - x) []) + 7 * beyond x y ≡ 3 + moreBits (stepSize x y)
+  any-bits =
+      by-bool (leb (stepSize x y) 15)
+      (λ e. let h = leb-true (stepSize x y) 15 e in omega (arith, step-bits h, near-beyond h))
+      (λ e. let h = leb-false (stepSize x y) 15 e in
+      by-bool (ltb x y) (λ f. too-high h (ltb-true x y f)) (λ f. too-low h (ltb-false x y f)))

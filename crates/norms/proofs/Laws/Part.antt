@@ -1,12 +1,12 @@
 -- The bits of the norm part as the code makes them, and how many they are.
 -- Assumes nothing.
-use mathlib.Core.Path.{_≡_, ap, ap₂, _∙_}
+use mathlib.Core.Path.{_≡_, sym, ap, ap₂, _∙_}
 use mathlib.Core.Bool.{Bool, true, false, cond, _&&_}
 use mathlib.Core.List.{List, [], _∷_, map}
 use Prim.Native.Nat.{ℕ, zero, suc, _+_, _*_, _≤_, _<_}
 use native.Mathlib.Omega.{arith}
 use lib.Dec.{T, leb, leb→le}
-use lib.ListN.{length, getD, replicate, length-append}
+use lib.ListN.{length, getD, drop, replicate, length-append}
 use Rattle.ground.proofs.Laws.Cases.{and-T}
 use Rattle.ground.proofs.Laws.PrintedTables.{every, every-at}
 use Rattle.bits.specs.Bits.{word, laid}
@@ -20,9 +20,13 @@ use Rattle.bits.proofs.Laws.Codings.{word-fixed}
 use Rattle.words.proofs.Laws.WritingTable.{word-column}
 use Rattle.runs.proofs.Laws.Writes.{run-few}
 use Rattle.order.specs.SentOrder.{sent}
+use Rattle.order.proofs.Laws.SentOrder.{length-sent}
 use Rattle.norms.specs.Steps.{numbers}
 use Rattle.norms.specs.Part.{normKinds, Writable, numbersOf, normBits}
+use Rattle.norms.specs.Answers.{wordTotal}
+use Rattle.norms.proofs.Laws.Steps.{length-numbers}
 use Rattle.norms.proofs.Laws.Codec.{kinds-long, norms-whole}
+use Rattle.bits.proofs.Laws.Codecs.{fit-length}
 
 pub kinds-plain : (flagN : Bool) → flagN ≡ false → replicate 44 5 ≡ normKinds flagN
 unfolding normKinds
@@ -83,12 +87,17 @@ unfolding normKinds writeAll
 bits-split flagN w ws = omega (arith, length-append (wordOf (coding 5) w) (writeAll (map coding (replicate 43 (cond flagN 20 5))) ws), word5 w)
 
 -- with FlagN 0 each number has five bits
-plain-long : (ws : List ℕ) → FitAll (map coding (normKinds false)) ws → length (writeAll (map coding (normKinds false)) ws) ≡ 220
+fives-long : (n : ℕ) (vs : List ℕ) → length vs ≡ n → length (writeAll (map coding (replicate n 5)) vs) ≡ 5 * n
+unfolding writeAll
+fives-long zero [] l = omega arith
+fives-long zero (v ∷ vs) l = absurd (omega arith)
+fives-long (suc n) [] l = absurd (omega arith)
+fives-long (suc n) (v ∷ vs) l =
+    omega (arith, length-append (wordOf (coding 5) v) (writeAll (map coding (replicate n 5)) vs), word5 v, fives-long n vs (omega arith))
+
+plain-long : (ws : List ℕ) → length ws ≡ 44 → length (writeAll (map coding (normKinds false)) ws) ≡ 220
 unfolding normKinds
-plain-long [] f = absurd f
-plain-long (w ∷ ws) f =
-    let r = run-long (coding 5) 5 5 (λ v g. (omega (arith, word5 v), omega (arith, word5 v))) 43 ws (f .1) in
-    omega (arith, r .0, r .1, bits-split false w ws)
+plain-long ws l = fives-long 44 ws l
 
 part-long : (flagN : Bool) (ws : List ℕ) → FitAll (map coding (normKinds flagN)) ws
     → (134 ≤ length (writeAll (map coding (normKinds flagN)) ws)) × (length (writeAll (map coding (normKinds flagN)) ws) ≤ 306)
@@ -98,7 +107,9 @@ part-long true (w ∷ ws) f =
     let r = run-long (coding 20) 3 7 word16 43 ws (f .1) in
     let s = bits-split true w ws in
     (omega (arith, r .0), omega (arith, r .1))
-part-long false (w ∷ ws) f = let e = plain-long (w ∷ ws) f in (omega arith, omega arith)
+part-long false (w ∷ ws) f =
+    let e = plain-long (w ∷ ws) (fit-length (map coding (normKinds false)) (w ∷ ws) f) in
+    (omega arith, omega arith)
 
 -- the norm part has 134 to 306 bits, and 220 with FlagN 0
 pub norm-bits : (transient flagN : Bool) (norms : List ℕ) → Writable transient norms
@@ -106,9 +117,28 @@ pub norm-bits : (transient flagN : Bool) (norms : List ℕ) → Writable transie
 unfolding normBits words
 norm-bits transient flagN norms w = part-long flagN (numbersOf transient norms) (norms-whole transient flagN norms w .1)
 
-pub plain-bits : (transient : Bool) (norms : List ℕ) → Writable transient norms → length (normBits transient false norms) ≡ 220
-unfolding normBits words
-plain-bits transient norms w = plain-long (numbersOf transient norms) (norms-whole transient false norms w .1)
+pub plain-bits : (transient : Bool) (norms : List ℕ) → length norms ≡ 44 → length (normBits transient false norms) ≡ 220
+unfolding normBits
+plain-bits transient norms l =
+    plain-long (numbersOf transient norms) (length-numbers 15 (sent transient norms) ∙ length-sent transient norms l)
+
+-- with FlagN 1 they are the five bits of the first index and the words
+pub word-bits : (transient : Bool) (norms : List ℕ) → length norms ≡ 44 → length (normBits transient true norms) ≡ 5 + wordTotal transient norms
+unfolding normBits wordTotal
+word-bits transient norms l = all (numbersOf transient norms) (length-numbers 15 (sent transient norms) ∙ length-sent transient norms l)
+  where
+    all : (ws : List ℕ) → length ws ≡ 44
+        → length (writeAll (map coding (normKinds true)) ws) ≡ 5 + length (writeAll (map coding (replicate 43 20)) (drop 1 ws))
+    all [] h = absurd (omega arith)
+    all (w ∷ ws) h = bits-split true w ws
+
+-- by the code's test of FlagN
+pub bits-plain : (transient f : Bool) (norms : List ℕ) → length norms ≡ 44 → f ≡ false → 220 ≡ length (normBits transient f norms)
+bits-plain transient f norms l e = rw e (sym (plain-bits transient norms l))
+
+pub bits-words : (transient f : Bool) (norms : List ℕ) → length norms ≡ 44 → f ≡ true → {n : ℕ} → n ≡ wordTotal transient norms
+    → 5 + n ≡ length (normBits transient f norms)
+bits-words transient f norms l e q = rw e (ap (λ (k : ℕ). 5 + k) q ∙ sym (word-bits transient norms l))
 
 -- of any norms at most 704 bits
 pub bits-few : (transient flagN : Bool) (norms : List ℕ) → length (normBits transient flagN norms) ≤ 704

@@ -1,21 +1,21 @@
--- The bits of the differences' words, counted step by step, with the test that no difference is too far.
+-- The differences' words counted step by step, with the test that none of the differences is too far.
 -- Assumes nothing.
-use mathlib.Core.Path.{_≡_, refl, sym, ap, ap₂, _∙_, subst}
-use mathlib.Core.Bool.{Bool, true, false, cond}
+use mathlib.Core.Path.{_≡_, refl, sym, ap, ap₂, _∙_}
+use mathlib.Core.Bool.{Bool, true, false}
 use mathlib.Core.List.{List, [], _∷_, map}
 use Prim.Native.Nat.{ℕ, suc, _+_, _-_, _*_, _≤_, _<_, max}
 use native.Mathlib.Omega.{arith}
 use native.Mathlib.Numerals.{add-one}
-use lib.Dec.{T, leb, ltb}
+use lib.Dec.{leb, ltb}
 use lib.ListN.{length, getD, drop, replicate, length-append, drop-of-length-le}
 use lib.Seq.{drop-cons}
-use borrow.Author.Tests.{leb-true, leb-false, ltb-true, ltb-false}
+use borrow.Author.Tests.{lt-leb, le-leb, leb-true, leb-false, ltb-true, ltb-false}
 use Rattle.ground.proofs.Laws.Cases.{by-bool}
 use Rattle.bits.specs.Codings.{wordOf}
 use Rattle.bits.specs.Codecs.{writeAll}
 use Rattle.norm_words.specs.Table16.{table16}
-use Rattle.norm_words.specs.Shape.{stepSize, moreBits}
-use Rattle.norm_words.proofs.Laws.Shape.{step-close, step-far, step-bits}
+use Rattle.norm_words.specs.Shape.{stepSize, moreBits, beyond}
+use Rattle.norm_words.proofs.Laws.Shape.{step-close, step-far, any-bits}
 use Rattle.words.specs.Tables.{coding, words}
 use Rattle.words.proofs.Laws.Tables.{coding-column}
 use Rattle.words.proofs.Laws.WritingTable.{word-column}
@@ -51,86 +51,80 @@ words-all (y ∷ ys) l =
     let n : 43 ≡ length ys = omega arith in
     ap (λ (k : ℕ). length (writeAll (map coding (replicate k 20)) (numbers y ys))) n
 
--- ---- the loop: the words of the steps before place i have 3 bits each and so many more, if none of the steps is too far
+-- ---- the loop over the steps before place i: their words have 3 bits each and so many more, less 7 for each that has no word; far is at most 15 where
+-- they are close
 
-pub record Counting (ss : List ℕ) (more i : ℕ) : Type 0 where
-  pub closing : Closing ss i
-  pub said : stepTotal ss ≡ 3 * i + more + wordsFrom (getD ss i 0) (drop (i + 1) ss)
-
-pub record Measuring (ss : List ℕ) (far more i : ℕ) : Type 0 where
+pub record Counting (ss : List ℕ) (far more lost i : ℕ) : Type 0 where
   pub upto : i ≤ 43
   pub few : more ≤ 4 * i
-  pub near : far ≤ 15 → Counting ss more i
+  pub none : lost ≤ i
+  pub near : far ≤ 15 → Closing ss i
   pub past : 15 < far → stepsClose ss ≡ false
+  pub said : stepTotal ss + 7 * lost ≡ 3 * i + more + wordsFrom (getD ss i 0) (drop (i + 1) ss)
 
-pub measure-start : (ss : List ℕ) → length ss ≡ 44 → Measuring ss 0 0 0
-measure-start ss l =
+pub count-start : (ss : List ℕ) → length ss ≡ 44 → Counting ss 0 0 0 0
+count-start ss l =
     record {
       upto = omega arith;
       few = omega arith;
-      near = λ h. record { closing = close-start ss; said = omega (arith, words-all ss l) };
+      none = omega arith;
+      near = λ h. close-start ss;
       past = λ h. absurd (omega arith);
+      said = omega (arith, words-all ss l);
     }
 
-module _ {ss : List ℕ} {far more i x y : ℕ} (I : Measuring ss far more i) (l : length ss ≡ 44) (h : i < 43) (ex : x ≡ getD ss i 0)
+module _ {ss : List ℕ} {far more lost i x y : ℕ} (I : Counting ss far more lost i) (l : length ss ≡ 44) (h : i < 43) (ex : x ≡ getD ss i 0)
     (ey : y ≡ getD ss (i + 1) 0) where
-  further : Counting ss more i → stepSize x y ≤ 15 → Counting ss (more + moreBits (stepSize x y)) (i + 1)
-  further C u =
-      let c = step-close x y u in
-      let ys = drop (suc (i + 1)) ss in
-      let one : wordsFrom (getD ss i 0) (drop (i + 1) ss) ≡ length (getD table16 (y + 15 - x) []) + wordsFrom y ys =
-      ap₂ wordsFrom (sym ex) (drop-cons ss (i + 1) 0 (omega arith) ∙ ap (λ (z : ℕ). z ∷ ys) (sym ey)) ∙ words-more x y ys in
-      let next : wordsFrom y ys ≡ wordsFrom (getD ss (i + 1) 0) (drop (i + 1 + 1) ss) = ap₂ (λ (z k : ℕ). wordsFrom z (drop k ss)) ey (sym (add-one (i + 1))) in
-      record {
-        closing = close-turn ss i x y (C .closing) l h ex ey (c .0) (c .1);
-        said = omega (arith, C .said, one, next, step-bits x y u);
-      }
-
   too-far : Closing ss i → 15 < stepSize x y → stepsClose ss ≡ false
   too-far C u =
       by-bool (leb x (y + 15))
       (λ t. let a = leb-true x (y + 15) t in close-up ss i x y C l h ex ey a (step-far x y u a))
       (λ t. close-down ss i x y C l h ex ey (leb-false x (y + 15) t))
 
-  pub measure-turn : {size reach m : ℕ} → size ≡ stepSize x y → reach ≡ max far size → (m ≡ moreBits size) × (m ≤ 4)
-      → Measuring ss reach (more + m) (i + 1)
-  measure-turn {size} {reach} {m} es er em =
+  one-more : wordsFrom (getD ss i 0) (drop (i + 1) ss) ≡ length (getD table16 (y + 15 - x) []) + wordsFrom (getD ss (i + 1) 0) (drop (i + 1 + 1) ss)
+  one-more =
+      let ys = drop (suc (i + 1)) ss in
+      ap₂ wordsFrom (sym ex) (drop-cons ss (i + 1) 0 (omega arith) ∙ ap (λ (z : ℕ). z ∷ ys) (sym ey)) ∙ words-more x y ys
+      ∙ ap₂ (λ (z k : ℕ). length (getD table16 (y + 15 - x) []) + wordsFrom z (drop k ss)) ey (sym (add-one (i + 1)))
+
+  pub count-turn : {size reach m b : ℕ} → size ≡ stepSize x y → reach ≡ max far size → (m ≡ moreBits size) × (m ≤ 4) → (b ≡ beyond x y) × (b ≤ 1)
+      → Counting ss reach (more + m) (lost + b) (i + 1)
+  count-turn {size} {reach} {m} es er em eb =
+      let em′ : m ≡ moreBits (stepSize x y) = em .0 ∙ ap moreBits es in
       record {
         upto = omega arith;
         few = omega (arith, I .few, em .1);
-        near = λ n.
-            subst (λ (k : ℕ). Counting ss (more + k) (i + 1)) (sym (em .0 ∙ ap moreBits es)) (further (I .near (omega arith)) (omega arith));
+        none = omega (arith, I .none, eb .1);
+        near = λ n. let c = step-close x y (omega arith) in close-turn ss i x y (I .near (omega arith)) l h ex ey (c .0) (c .1);
         past = λ p.
-            by-bool (ltb 15 far) (λ t. I .past (ltb-true 15 far t))
-            (λ t. let n = ltb-false 15 far t in too-far (I .near n .closing) (omega arith));
+            by-bool (ltb 15 far) (λ t. I .past (ltb-true 15 far t)) (λ t. let n = ltb-false 15 far t in too-far (I .near n) (omega arith));
+        said = omega (arith, I .said, one-more, any-bits x y, em′, eb .0);
       }
 
-module _ {ss : List ℕ} {far more i : ℕ} (I : Measuring ss far more i) where
-  pub measured-far : 15 < far → (0 ≡ cond (stepsClose ss) (stepTotal ss) 0) × (T (stepsClose ss) → 129 ≤ 0)
-  measured-far p = rw (I .past p) (refl, λ t. absurd t)
+module _ {ss : List ℕ} {far more lost i : ℕ} (I : Counting ss far more lost i) (l : length ss ≡ 44) (h : 43 ≤ i) where
+  all-counted : stepTotal ss + 7 * lost ≡ 129 + more
+  all-counted =
+      let ys = drop (i + 1) ss in
+      omega (arith, I .said, I .upto, words-none (getD ss i 0) ys (ap length (drop-of-length-le ss {i = i + 1} (omega arith))))
 
-  pub measured : {n : ℕ} → length ss ≡ 44 → 43 ≤ i → far ≤ 15 → (n ≡ more) × (n < 256)
-      → (129 + n ≡ cond (stepsClose ss) (stepTotal ss) 0) × (T (stepsClose ss) → 129 ≤ 129 + n)
-  measured l h n e =
-      let C = I .near n in
-      let none : wordsFrom (getD ss i 0) (drop (i + 1) ss) ≡ 0 = words-none (getD ss i 0) (drop (i + 1) ss)
-      (ap length (drop-of-length-le ss {i = i + 1} (omega arith))) in
-      (rw (close-end ss i (C .closing) l h) (omega (arith, C .said, I .upto, e .0)), λ t. omega arith)
+  pub count-fits : {m b : ℕ} → (m ≡ more) × (m < 256) → (b ≡ lost) × (b < 256) → 7 * b ≤ 129 + m
+  count-fits em eb = omega (arith, all-counted, em .0, eb .0)
 
--- ---- what the count tells of norms in sent order
+  pub counted : {m b : ℕ} → (m ≡ more) × (m < 256) → (b ≡ lost) × (b < 256)
+      → (leb far 15 ≡ stepsClose ss) × (129 + m - 7 * b ≡ stepTotal ss) × (129 + m - 7 * b ≤ 301)
+  counted em eb =
+      let told = by-bool (leb far 15) (λ t. t ∙ sym (close-end ss i (I .near (leb-true far 15 t)) l h)) (λ t. t ∙ sym (I .past (leb-false far 15 t))) in
+      (told, omega (arith, all-counted, em .0, eb .0), omega (arith, I .few, I .upto, em .0))
 
-module _ {list ss : List ℕ} {n : ℕ} (p : (n ≡ cond (stepsClose list) (stepTotal list) 0) × (T (stepsClose list) → 129 ≤ n)) (e : list ≡ ss) where
-  none-far : n ≡ 0 → stepsClose list ≡ false
-  none-far z = by-bool (stepsClose list) (λ t. absurd (omega (arith, p .1 (rw t tt)))) (λ t. t)
+-- ---- what the count of a list tells of norms whose sent order it is
 
-  some-near : (n ≡ 0 → ⊥) → stepsClose list ≡ true
-  some-near z = by-bool (stepsClose list) (λ t. t) (λ t. absurd (z (p .0 ∙ rw t)))
+module _ {list ss : List ℕ} (far bits : ℕ) (e : list ≡ ss) (p : (leb far 15 ≡ stepsClose list) × (bits ≡ stepTotal list) × (bits ≤ 301)) where
+  pub counted-sent : (leb far 15 ≡ stepsClose ss) × (bits ≡ stepTotal ss) × (bits ≤ 301)
+  counted-sent = (p .0 ∙ ap stepsClose e, p .1 ∙ ap stepTotal e, p .2)
 
-  pub steps-far : n ≡ 0 → stepsClose ss ≡ false
-  steps-far z = rw e at (none-far z)
+module _ (ss : List ℕ) (far : ℕ) (p : leb far 15 ≡ stepsClose ss) where
+  pub steps-far : 15 < far → stepsClose ss ≡ false
+  steps-far h = sym p ∙ lt-leb far 15 h
 
-  pub steps-near : (n ≡ 0 → ⊥) → stepsClose ss ≡ true
-  steps-near z = rw e at (some-near z)
-
-  pub steps-bits : (n ≡ 0 → ⊥) → n ≡ stepTotal ss
-  steps-bits z = p .0 ∙ rw (some-near z) (ap stepTotal e)
+  pub steps-near : far ≤ 15 → stepsClose ss ≡ true
+  steps-near h = sym p ∙ le-leb far 15 h
