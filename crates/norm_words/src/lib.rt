@@ -1,6 +1,6 @@
 // The words of norms (Table 16) by their shape (02, No. 3): neither the words nor a look-up of them stands in the code.
 ghost use mathlib.Core.Path.{_≡_};
-ghost use Prim.Native.Nat.{_≤_, _<_};
+ghost use Prim.Native.Nat.{_+_, _≤_, _<_};
 ghost use Rattle.norm_words.specs.Shape.{wordIn, middle, atLeast, moreBits, sevenOf, spelling, stepSize, beyond};
 use ground::numbers::size_from_u8;
 
@@ -18,7 +18,7 @@ pub struct Spelling {
 
 // The word with which seven bits begin: a 0 as third bit ends it, else a 0 as fourth, else a 0 as sixth whatever the fifth is, else it has all seven.
 pub fn word_in(seven: usize) -> Found
-    ensures { λ r. ⌜ r ≡ wordIn seven ⌝ }
+    ensures { λ r. ⌜ (r ≡ wordIn seven) × (r .bits ≤ 7) × (r .number ≤ seven + 28) ⌝ }
 {
     let pair = seven / 32;
     let first = seven / 64 % 2;

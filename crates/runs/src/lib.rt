@@ -6,12 +6,14 @@ ghost use lib.Dec.{T};
 ghost use lib.ListN.{length, getD};
 ghost use Rattle.bits.specs.Bits.{laid};
 ghost use Rattle.bits.specs.Codecs.{writeAll};
-ghost use Rattle.words.specs.Tables.{coding, shaped, short};
+ghost use Rattle.words.specs.Tables.{coding, short};
+ghost use Rattle.words.specs.Answers.{BothAt};
 ghost use Rattle.words.specs.ReadingTable.{readingTable};
 ghost use Rattle.words.specs.WritingTable.{writingTable};
 ghost use Rattle.runs.specs.Runs.{ran, runAt, readSome, over, passedUp, runReply};
 use bits::Refusal;
 use ground::replies::DONE;
+use words::Pair;
 use words::Word;
 
 // The next place after a run of words, or the first refusal.
@@ -77,16 +79,41 @@ pub fn read_words(s: &[u8], at: usize, end: usize, kinds: &[u8], out: &mut [u16]
     read_run(&table, s, at, end, kinds, out)
 }
 
-// Reads the words of kinds that need no look-up: as many bits, and norm words.
-pub fn read_shaped_words(s: &[u8], at: usize, end: usize, kinds: &[u8], out: &mut [u16]) -> Run
-    requires { ⌜ (length (now kinds) ≤ length (now out)) × ((i : ℕ) → i < length (now kinds) → T (shaped (getD (now kinds) i 0))) ⌝ }
+// The words of the kinds at places i and i + 1, where both are whole.
+fn two_at(s: &[u8], at: usize, end: usize, kinds: &[u8], i: usize) -> Pair
+    requires { ⌜ (i < length (now kinds)) × ((i : ℕ) → i < length (now kinds) → T (short (getD (now kinds) i 0))) ⌝ }
+    ensures { λ r. ⌜ (T (r .whole) → (i + 1 < length (now (kinds .entry)))
+        × BothAt (now (s .entry)) at end (getD (now (kinds .entry)) i 0) (getD (now (kinds .entry)) (i + 1) 0) (r .first) (r .second) (r .next)) ⌝ }
+{
+    if kinds.len() <= i + 1 {
+        return Pair {
+            whole: false,
+            first: 0,
+            second: 0,
+            next: 0,
+        };
+    }
+    words::read_pair(s, at, end, kinds[i], kinds[i + 1])
+}
+
+// Reads the words of short kinds, two at a time where both lie before the end, and one by one from there on.
+pub fn read_short_words(s: &[u8], at: usize, end: usize, kinds: &[u8], out: &mut [u16]) -> Run
+    requires { ⌜ (length (now kinds) ≤ length (now out)) × ((i : ℕ) → i < length (now kinds) → T (short (getD (now kinds) i 0))) ⌝ }
     ensures { λ r. ⌜ (r ≡ ran at (end - at) (runAt (now (s .entry)) at end (now (kinds .entry))))
         × (now (out .exit) ≡ over (readSome (now (s .entry)) at end (now (kinds .entry))) (now (out .entry))) ⌝ }
 {
     let mut p = at;
     let mut i: usize = 0;
     while i < kinds.len() {
-        let w = words::read_shaped(s, p, end, kinds[i]);
+        let two = two_at(s, p, end, kinds, i);
+        if two.whole {
+            out[i] = two.first;
+            out[i + 1] = two.second;
+            p = two.next;
+            i += 2;
+            continue;
+        }
+        let w = words::read_short(s, p, end, kinds[i]);
         let Word::At(v, next) = w else {
             return passed(w);
         };
@@ -122,8 +149,8 @@ pub fn write_words(s: &mut [u8], at: usize, kinds: &[u8], numbers: &[u16]) -> us
     write_run(&table, s, at, kinds, numbers)
 }
 
-// Writes the words of an even count of kinds, all of at most eight bits and none that needs a table, two at a time.
-pub fn write_pairs(s: &mut [u8], at: usize, kinds: &[u8], numbers: &[u16]) -> usize
+// Writes the words of an even count of short kinds, two at a time.
+pub fn write_short_words(s: &mut [u8], at: usize, kinds: &[u8], numbers: &[u16]) -> usize
     requires { ⌜ (length (now kinds) ≡ length (now numbers)) × (length (now kinds) % 2 ≡ 0) × (at + 16 * length (now kinds) < 18446744073709551616)
         × ((i : ℕ) → i < length (now kinds) → T (short (getD (now kinds) i 0))) ⌝ }
     ensures { λ r. ⌜ (r ≡ length (writeAll (map coding (now (kinds .entry))) (now (numbers .entry))))

@@ -84,11 +84,7 @@ firstWords = 16
 abbrev pub normWords : ℕ
 normWords = 20
 
--- a kind whose words need no table: as many bits, or a norm word
-abbrev pub shaped : ℕ → Bool
-shaped kind = cond (ltb kind firstWords) true (leb normWords kind)
-
--- one whose words have at most eight bits as well
+-- a kind whose words need no table and have at most eight bits: as many bits, or a norm word
 abbrev pub short : ℕ → Bool
 short kind = cond (leb kind 8) true (leb normWords kind)
 

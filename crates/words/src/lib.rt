@@ -1,14 +1,15 @@
 // The words of a frame: as many bits as a place has, coefficient words (Table 20), read by one look-up and written by their table, and norm words
 // (Table 16), which are read and written by their shape.
 ghost use mathlib.Core.Path.{_≡_};
-ghost use Prim.Native.Nat.{_+_, _*_, _≤_, _<_};
+ghost use Prim.Native.Nat.{ℕ, _+_, _*_, _≤_, _<_};
+ghost use Rattle.words.specs.declared.Word.the-variants.{At};
 ghost use lib.Dec.{T};
 ghost use lib.ListN.{length, getD};
-ghost use mathlib.Core.List.{[], _++_};
-ghost use Rattle.bits.specs.Bits.{word, view, laid};
+ghost use mathlib.Core.List.{List, [], _++_};
+ghost use Rattle.bits.specs.Bits.{word, val, view, laid};
 ghost use Rattle.bits.specs.Codings.{fixed, unword, wordOf, fit};
-ghost use Rattle.words.specs.Tables.{words, column, coding, shaped, short};
-ghost use Rattle.words.specs.Answers.{placed, wordAt};
+ghost use Rattle.words.specs.Tables.{words, column, coding, short};
+ghost use Rattle.words.specs.Answers.{placed, wordAt, BothAt};
 ghost use Rattle.words.specs.Inner.{right, packed};
 ghost use Rattle.words.specs.ReadingTable.{readingTable};
 ghost use Rattle.words.specs.WritingTable.{writingTable};
@@ -16,6 +17,7 @@ use bits::Refusal;
 use ground::numbers::minus;
 use ground::numbers::size_from_u8;
 use ground::numbers::size_from_u16;
+use norm_words::Found;
 use norm_words::Spelling;
 
 pub mod tables;
@@ -104,9 +106,9 @@ pub fn read_word_by(table: &[u8; 512], s: &[u8], at: usize, end: usize, kind: u8
     norm_word(s, at, left)
 }
 
-// The word of a kind at a place, of one that needs no look-up: as many bits, or a norm word.
-pub fn read_shaped(s: &[u8], at: usize, end: usize, kind: u8) -> Word
-    requires { ⌜ T (shaped kind) ⌝ }
+// The word of a short kind at a place: as many bits, or a norm word, and no look-up.
+pub fn read_short(s: &[u8], at: usize, end: usize, kind: u8) -> Word
+    requires { ⌜ T (short kind) ⌝ }
     ensures { λ r. ⌜ r ≡ wordAt (now (s .entry)) at end kind ⌝ }
 {
     let kind = size_from_u8(kind);
@@ -115,6 +117,56 @@ pub fn read_shaped(s: &[u8], at: usize, end: usize, kind: u8) -> Word
         return fixed_word(s, at, left, kind);
     }
     norm_word(s, at, left)
+}
+
+// The word of a short kind with which eight bits begin.
+fn short_word(eight: usize, kind: u8) -> Found
+    requires { ⌜ (eight < 256) × T (short kind) ⌝ }
+    ensures { λ r. ⌜ ((s : List ℕ) (p m : ℕ) → eight ≡ val (view s p 8) → r .bits ≤ m → At (r .number) (p + r .bits) ≡ placed p m (unword (coding kind) (view s p m)))
+        × (r .bits ≤ 8) × (r .number < 65536) ⌝ }
+{
+    let kind = size_from_u8(kind);
+    if kind < FIRST_WORDS {
+        return Found {
+            number: eight >> (8 - kind),
+            bits: kind,
+        };
+    }
+    norm_words::word_in(eight / 2)
+}
+
+// Two words, one behind the other, where both are whole.
+pub struct Pair {
+    pub whole: bool,
+    pub first: u16,
+    pub second: u16,
+    pub next: usize,
+}
+
+// The words of two short kinds at a place, off one look at its bits; not whole where the second ends past the end.
+pub fn read_pair(s: &[u8], at: usize, end: usize, first: u8, second: u8) -> Pair
+    requires { ⌜ T (short first) × T (short second) ⌝ }
+    ensures { λ r. ⌜ (T (r .whole) → BothAt (now (s .entry)) at end first second (r .first) (r .second) (r .next)) ⌝ }
+{
+    let k = bits::read_bits(s, at, 16);
+    let a = short_word(k / 256, first);
+    let n = a.bits;
+    let b = short_word((k >> (8 - n)) % 256, second);
+    let bits = n + b.bits;
+    if minus(end, at) < bits {
+        return Pair {
+            whole: false,
+            first: 0,
+            second: 0,
+            next: 0,
+        };
+    }
+    Pair {
+        whole: true,
+        first: a.number as u16,
+        second: b.number as u16,
+        next: at + bits,
+    }
 }
 
 // The word of a kind at a place, all of it before the end: the bits from the end on never help to finish a word.
@@ -156,7 +208,7 @@ fn column_spelling(table: &[u16; 60], c: usize, v: usize) -> Spelling
     }
 }
 
-// The word for a number of a kind that needs no table and has at most eight bits; no bits where it has none.
+// The word of a short kind for a number; no bits where it has none.
 fn short_spelling(kind: u8, v: u16) -> Spelling
     requires { ⌜ T (short kind) ⌝ }
     ensures { λ r. ⌜ (word (r .bits) (r .value) ≡ wordOf (coding kind) v) × (r .bits ≤ 8) × (r .value < 65536) ⌝ }
@@ -212,7 +264,7 @@ pub fn write_word(s: &mut [u8], at: usize, kind: u8, v: u16) -> usize
     write_word_by(&table, s, at, kind, v)
 }
 
-// Writes the words for two numbers, one behind the other and at once, and gives their length.
+// Writes the words of two short kinds for two numbers, one behind the other and at once, and gives their length.
 pub fn write_pair(s: &mut [u8], at: usize, first: u8, a: u16, second: u8, b: u16) -> usize
     requires { ⌜ T (short first) × T (short second) ⌝ }
     ensures { λ r. ⌜ (r ≡ length (wordOf (coding first) a ++ wordOf (coding second) b))

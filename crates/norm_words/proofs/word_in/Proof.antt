@@ -1,5 +1,6 @@
 -- `norm_words::word_in` meets its contract, test by test. Assumes nothing.
 use borrow.Author.Needs.{needs}
+use native.Mathlib.Omega.{arith}
 use Rattle.norm_words.proofs.Laws.Answers.{ends-third, ends-fourth, ends-sixth, ends-last}
 use Rattle.norm_words.proofs.word_in.Statement.{statement}
 use Rattle.norm_words.proofs.word_in.Tie as tie
@@ -11,18 +12,18 @@ word-in-spec =
     (λ c. search needs)
     (λ c. search needs)
     (λ c. search needs)
-    (λ c. search ends-third)
+    (λ c. (search ends-third, omega arith, omega arith))
     (λ c. search needs)
     (λ c. search needs)
     (λ c. search needs)
-    (λ c. search ends-fourth)
-    (λ c. search needs)
-    (λ c. search needs)
-    (λ c. search needs)
-    (λ c. search needs)
-    (λ c. search ends-sixth)
+    (λ c. (search ends-fourth, omega arith, omega arith))
     (λ c. search needs)
     (λ c. search needs)
     (λ c. search needs)
     (λ c. search needs)
-    (λ c. search ends-last))
+    (λ c. (search ends-sixth, omega arith, omega arith))
+    (λ c. search needs)
+    (λ c. search needs)
+    (λ c. search needs)
+    (λ c. search needs)
+    (λ c. (search ends-last, omega arith, omega arith)))

@@ -14,7 +14,7 @@ use Rattle.bits.specs.Codings.{got}
 use Rattle.bits.specs.Codecs.{Verdict, fine, bad, readAll}
 use Rattle.bits.specs.declared.Refusal.{Refusal}
 use Rattle.bits.specs.declared.Refusal.the-variants.{Outside}
-use Rattle.words.specs.Tables.{coding, shaped, short}
+use Rattle.words.specs.Tables.{coding, short}
 use Rattle.runs.specs.Runs.{runAt, ran, runReply, readSome, over}
 use Rattle.runs.proofs.Laws.Runs.{run-not, run-filled}
 use Rattle.runs.specs.declared.Run.{Run}
@@ -28,15 +28,7 @@ use Rattle.norms.specs.Inner.{indicesOf}
 use Rattle.norms.specs.declared.Indices.{Indices}
 use lib.Dec.{T, leb}
 
--- no kind of the numbers needs a table, nor more than eight bits
-all-shaped : (f : Bool) → T (every (λ (i k : ℕ). shaped k) 0 (normKinds f))
-unfolding normKinds
-all-shaped true = tt
-all-shaped false = tt
-
-pub kinds-shaped : (flagN : Bool) {kinds : List ℕ} → kinds ≡ normKinds flagN → (i : ℕ) → i < length kinds → T (shaped (getD kinds i 0))
-kinds-shaped flagN {kinds} e = every-at (λ (i k : ℕ). shaped k) kinds 0 (rw e (all-shaped flagN))
-
+-- each kind of the numbers is short
 all-short : (f : Bool) → T (every (λ (i k : ℕ). short k) 0 (normKinds f))
 unfolding normKinds
 all-short true = tt

@@ -1,6 +1,6 @@
 -- `norms::read_norms` meets its contract: a run of words, then the indices, then band order. Assumes nothing.
 use borrow.Author.Tests.{not-true, not-false}
-use Rattle.norms.proofs.Laws.Reads.{kinds-shaped, read-refused, read-outside, read-sound}
+use Rattle.norms.proofs.Laws.Reads.{kinds-short, read-refused, read-outside, read-sound}
 use borrow.Author.Needs.{needs}
 use Rattle.norms.proofs.read_norms.Statement.{statement}
 use Rattle.norms.proofs.read_norms.Tie as tie
@@ -12,7 +12,7 @@ read-norms-spec =
     (λ c κs. search needs)
     (λ c. search needs)
     (λ c. search needs)
-    (λ c κs. (search needs, search kinds-shaped))
+    (λ c κs. (search needs, search kinds-short))
     (λ c. search needs)
     (λ c. search needs)
     (λ c κs. search needs)

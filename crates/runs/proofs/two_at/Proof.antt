@@ -1,0 +1,18 @@
+-- `runs::two_at` meets its contract: no second kind, or the pair that is read. Assumes nothing.
+use borrow.Author.Needs.{needs}
+use native.Mathlib.Omega.{arith}
+use Prim.Native.Nat.{_+_}
+use Rattle.runs.proofs.two_at.Statement.{statement}
+use Rattle.runs.proofs.two_at.Tie as tie
+
+pub two-at-spec : {M : Type 1} → statement M
+two-at-spec =
+    tie.close
+    (tie.spec
+    (λ c. omega arith)
+    (λ c t. absurd t)
+    (λ c. omega arith)
+    (λ c. omega arith)
+    (λ c. omega arith)
+    (λ c κs. let a : tie.Start = search in (a .pre .1 (a .args .i) (search), a .pre .1 (a .args .i + 1) (omega arith)))
+    (λ c t. (omega arith, c .read-pair .ensures t)))

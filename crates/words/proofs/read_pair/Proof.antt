@@ -1,0 +1,40 @@
+-- `words::read_pair` meets its contract: the first word in eight bits, and the second in the eight behind it. Assumes nothing.
+use denote.Ref.{now}
+use native.Mathlib.Omega.{arith}
+use Rattle.bits.proofs.Laws.Views.{read-lt}
+use Rattle.words.proofs.Laws.Pairs.{both-at}
+use borrow.Author.Needs.{needs}
+use Rattle.words.proofs.read_pair.Statement.{statement}
+use Rattle.words.proofs.read_pair.Tie as tie
+
+short-word-requires : tie.Need-short-word-requires
+short-word-requires c κs =
+    let r : tie.After-read-bits = search in
+    let a : tie.Start = search in
+    (omega (arith, read-lt (now (a .args .s)) (a .args .at) 16 (r .read-bits .ensures)), a .pre .0)
+
+returns-2 : tie.Need-returns-2
+returns-2 c =
+    let y : tie.After-short-word2 = search in
+    let x : tie.After-short-word = search in
+    let r : tie.After-read-bits = search in
+    let a : tie.Start = search in
+    λ t. both-at (now (a .args .s)) (a .args .at) (a .args .end) (a .args .first) (a .args .second) (r .read-bits .ensures) (x .short-word .ensures)
+    (y .short-word2 .ensures) (omega arith)
+
+pub read-pair-spec : {M : Type 1} → statement M
+read-pair-spec =
+    tie.close
+    (tie.spec
+    (λ c κs. search needs)
+    short-word-requires
+    (λ c. search needs)
+    (λ c. search needs)
+    (λ c κs. let a : tie.Start = search in (omega arith, a .pre .1))
+    (λ c. search needs)
+    (λ c κs. search needs)
+    (λ c t. absurd t)
+    (λ c. search needs)
+    (λ c. search needs)
+    (λ c. search needs)
+    returns-2)
