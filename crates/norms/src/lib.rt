@@ -101,7 +101,7 @@ pub fn read_norms(s: &[u8], at: usize, end: usize, transient: bool, flag_n: bool
 {
     let mut ws = [0u16; 44];
     let kinds = norm_kinds(flag_n);
-    let run = runs::read_short_words(s, at, end, &kinds, &mut ws);
+    let run = short_words::read_short_words(s, at, end, &kinds, &mut ws);
     let Run::Done(next) = run else {
         return NormPart {
             reply: runs::run_reply(run),
@@ -134,7 +134,7 @@ pub fn write_norms(s: &mut [u8], at: usize, transient: bool, flag_n: bool, norms
 {
     let kinds = norm_kinds(flag_n);
     let ws = numbers_of(order::sent_order(transient, norms));
-    runs::write_short_words(s, at, &kinds, &ws)
+    short_words::write_short_words(s, at, &kinds, &ws)
 }
 
 // The differences of norms in sent order: the furthest of their numbers from the middle, and how many bits their 43 words have.

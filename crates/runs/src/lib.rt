@@ -1,19 +1,16 @@
 // Words one after the other: a run of kinds, read into a lent slice, written from one, and counted.
 ghost use mathlib.Core.Path.{_≡_};
 ghost use mathlib.Core.List.{map};
-ghost use Prim.Native.Nat.{ℕ, _+_, _-_, _*_, _%_, _≤_, _<_};
-ghost use lib.Dec.{T};
-ghost use lib.ListN.{length, getD};
+ghost use Prim.Native.Nat.{_+_, _-_, _*_, _≤_, _<_};
+ghost use lib.ListN.{length};
 ghost use Rattle.bits.specs.Bits.{laid};
 ghost use Rattle.bits.specs.Codecs.{writeAll};
-ghost use Rattle.words.specs.Tables.{coding, short};
-ghost use Rattle.words.specs.Answers.{BothAt};
+ghost use Rattle.words.specs.Tables.{coding};
 ghost use Rattle.words.specs.ReadingTable.{readingTable};
 ghost use Rattle.words.specs.WritingTable.{writingTable};
 ghost use Rattle.runs.specs.Runs.{ran, runAt, readSome, over, passedUp, runReply};
 use bits::Refusal;
 use ground::replies::DONE;
-use words::Pair;
 use words::Word;
 
 // The next place after a run of words, or the first refusal.
@@ -23,7 +20,7 @@ pub enum Run {
 }
 
 // A word's refusal as the run's.
-fn passed(w: Word) -> Run
+pub fn passed(w: Word) -> Run
     ensures { λ r. ⌜ r ≡ passedUp w ⌝ }
 {
     match w {
@@ -79,51 +76,6 @@ pub fn read_words(s: &[u8], at: usize, end: usize, kinds: &[u8], out: &mut [u16]
     read_run(&table, s, at, end, kinds, out)
 }
 
-// The words of the kinds at places i and i + 1, where both are whole.
-fn two_at(s: &[u8], at: usize, end: usize, kinds: &[u8], i: usize) -> Pair
-    requires { ⌜ (i < length (now kinds)) × ((i : ℕ) → i < length (now kinds) → T (short (getD (now kinds) i 0))) ⌝ }
-    ensures { λ r. ⌜ (T (r .whole) → (i + 1 < length (now (kinds .entry)))
-        × BothAt (now (s .entry)) at end (getD (now (kinds .entry)) i 0) (getD (now (kinds .entry)) (i + 1) 0) (r .first) (r .second) (r .next)) ⌝ }
-{
-    if kinds.len() <= i + 1 {
-        return Pair {
-            whole: false,
-            first: 0,
-            second: 0,
-            next: 0,
-        };
-    }
-    words::read_pair(s, at, end, kinds[i], kinds[i + 1])
-}
-
-// Reads the words of short kinds, two at a time where both lie before the end, and one by one from there on.
-pub fn read_short_words(s: &[u8], at: usize, end: usize, kinds: &[u8], out: &mut [u16]) -> Run
-    requires { ⌜ (length (now kinds) ≤ length (now out)) × ((i : ℕ) → i < length (now kinds) → T (short (getD (now kinds) i 0))) ⌝ }
-    ensures { λ r. ⌜ (r ≡ ran at (end - at) (runAt (now (s .entry)) at end (now (kinds .entry))))
-        × (now (out .exit) ≡ over (readSome (now (s .entry)) at end (now (kinds .entry))) (now (out .entry))) ⌝ }
-{
-    let mut p = at;
-    let mut i: usize = 0;
-    while i < kinds.len() {
-        let two = two_at(s, p, end, kinds, i);
-        if two.whole {
-            out[i] = two.first;
-            out[i + 1] = two.second;
-            p = two.next;
-            i += 2;
-            continue;
-        }
-        let w = words::read_short(s, p, end, kinds[i]);
-        let Word::At(v, next) = w else {
-            return passed(w);
-        };
-        out[i] = v;
-        p = next;
-        i += 1;
-    }
-    Run::Done(p)
-}
-
 // The run by lent words.
 fn write_run(table: &[u16; 60], s: &mut [u8], at: usize, kinds: &[u8], numbers: &[u16]) -> usize
     requires { ⌜ (now table ≡ writingTable) × (length (now kinds) ≡ length (now numbers)) × (at + 16 * length (now kinds) < 18446744073709551616) ⌝ }
@@ -147,29 +99,6 @@ pub fn write_words(s: &mut [u8], at: usize, kinds: &[u8], numbers: &[u16]) -> us
 {
     let table = words::tables::WRITING;
     write_run(&table, s, at, kinds, numbers)
-}
-
-// Writes the words of an even count of short kinds, two at a time.
-pub fn write_short_words(s: &mut [u8], at: usize, kinds: &[u8], numbers: &[u16]) -> usize
-    requires { ⌜ (length (now kinds) ≡ length (now numbers)) × (length (now kinds) % 2 ≡ 0) × (at + 16 * length (now kinds) < 18446744073709551616)
-        × ((i : ℕ) → i < length (now kinds) → T (short (getD (now kinds) i 0))) ⌝ }
-    ensures { λ r. ⌜ (r ≡ length (writeAll (map coding (now (kinds .entry))) (now (numbers .entry))))
-        × (now (s .exit) ≡ laid (now (s .entry)) at (writeAll (map coding (now (kinds .entry))) (now (numbers .entry)))) ⌝ }
-{
-    let mut n: usize = 0;
-    let mut i: usize = 0;
-    while i < kinds.len() {
-        n += words::write_pair(
-            s,
-            at + n,
-            kinds[i],
-            numbers[i],
-            kinds[i + 1],
-            numbers[i + 1],
-        );
-        i += 2;
-    }
-    n
 }
 
 // The count by lent words.

@@ -1,7 +1,6 @@
 -- The laws of this crate, for its own proofs and for the crates above.
 pub mod Answers
 pub mod ReadingTable
-pub mod Pairs
 pub mod WritingTable
 pub mod NeverRefused
 pub mod Tables

@@ -1,6 +1,5 @@
 -- What reading a word at a place answers.
 -- Assumes nothing.
-use mathlib.Core.Path.{_≡_}
 use mathlib.Core.List.{List}
 use Prim.Native.Nat.{ℕ, _+_, _-_}
 use lib.ListN.{length}
@@ -18,12 +17,6 @@ placed at left (no x) = No x
 -- the word of a kind at a place, all of it before the end
 unfoldable pub wordAt : List ℕ → ℕ → ℕ → ℕ → Word
 wordAt s at end kind = placed at (end - at) (unword (coding kind) (view s at (end - at)))
-
--- two words one behind the other, both of them before the end
-pub record BothAt (s : List ℕ) (at end first second a b next : ℕ) : Type 0 where
-  pub middle : ℕ
-  pub one : At a middle ≡ wordAt s at end first
-  pub two : At b next ≡ wordAt s middle end second
 
 -- 01's number for an answer
 abbrev pub numberOf : Word → ℕ

@@ -1,9 +1,9 @@
 -- Table 20 as it is printed, and the codings that its words and those of Table 16 make.
 -- Assumes nothing.
-use mathlib.Core.Bool.{Bool, true, cond}
+use mathlib.Core.Bool.{Bool, cond}
 use mathlib.Core.List.{List, [], _∷_, map}
 use Prim.Native.Nat.{ℕ, zero, suc, _-_, _^_}
-use lib.Dec.{ltb, leb}
+use lib.Dec.{ltb}
 use lib.ListN.{getD, take}
 use Rattle.bits.specs.Bits.{word}
 use Rattle.bits.specs.Codings.{Coding, fixed, prefix}
@@ -83,10 +83,6 @@ firstWords = 16
 -- the kind of a norm word
 abbrev pub normWords : ℕ
 normWords = 20
-
--- a kind whose words need no table and have at most eight bits: as many bits, or a norm word
-abbrev pub short : ℕ → Bool
-short kind = cond (leb kind 8) true (leb normWords kind)
 
 -- what stands at one place of a frame. Kinds below the first words are as many bits (of 0 bits: an unused place); then come the words of rates 2 to 5, and
 -- from normWords on those of Table 16

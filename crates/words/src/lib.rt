@@ -1,15 +1,14 @@
 // The words of a frame: as many bits as a place has, coefficient words (Table 20), read by one look-up and written by their table, and norm words
 // (Table 16), which are read and written by their shape.
 ghost use mathlib.Core.Path.{_≡_};
-ghost use Prim.Native.Nat.{ℕ, _+_, _*_, _≤_, _<_};
-ghost use Rattle.words.specs.declared.Word.the-variants.{At};
+ghost use Prim.Native.Nat.{_+_, _*_, _≤_, _<_};
 ghost use lib.Dec.{T};
 ghost use lib.ListN.{length, getD};
-ghost use mathlib.Core.List.{List, [], _++_};
-ghost use Rattle.bits.specs.Bits.{word, val, view, laid};
+ghost use mathlib.Core.List.{[]};
+ghost use Rattle.bits.specs.Bits.{word, view, laid};
 ghost use Rattle.bits.specs.Codings.{fixed, unword, wordOf, fit};
-ghost use Rattle.words.specs.Tables.{words, column, coding, short};
-ghost use Rattle.words.specs.Answers.{placed, wordAt, BothAt};
+ghost use Rattle.words.specs.Tables.{words, column, coding};
+ghost use Rattle.words.specs.Answers.{placed, wordAt};
 ghost use Rattle.words.specs.Inner.{right, packed};
 ghost use Rattle.words.specs.ReadingTable.{readingTable};
 ghost use Rattle.words.specs.WritingTable.{writingTable};
@@ -17,7 +16,6 @@ use bits::Refusal;
 use ground::numbers::minus;
 use ground::numbers::size_from_u8;
 use ground::numbers::size_from_u16;
-use norm_words::Found;
 use norm_words::Spelling;
 
 pub mod tables;
@@ -38,27 +36,27 @@ pub enum Word {
 }
 
 // As many bits at a place, within the bits that are left.
-fn fixed_word(s: &[u8], at: usize, left: usize, n: usize) -> Word
-    requires { ⌜ (n < 16) × (at + left < 18446744073709551616) ⌝ }
-    ensures { λ r. ⌜ r ≡ placed at left (unword (fixed n) (view (now (s .entry)) at left)) ⌝ }
+pub fn fixed_word(s: &[u8], at: usize, left: usize, width: usize) -> Word
+    requires { ⌜ (width < 16) × (at + left < 18446744073709551616) ⌝ }
+    ensures { λ r. ⌜ r ≡ placed at left (unword (fixed width) (view (now (s .entry)) at left)) ⌝ }
 {
-    if left < n {
+    if left < width {
         return Word::No(Refusal::Past);
     }
-    Word::At(bits::read_bits(s, at, n) as u16, at + n)
+    Word::At(bits::read_bits(s, at, width) as u16, at + width)
 }
 
 // The norm word at a place, within the bits that are left.
-fn norm_word(s: &[u8], at: usize, left: usize) -> Word
+pub fn norm_word(s: &[u8], at: usize, left: usize) -> Word
     requires { ⌜ at + left < 18446744073709551616 ⌝ }
     ensures { λ r. ⌜ r ≡ placed at left (unword (column 4) (view (now (s .entry)) at left)) ⌝ }
 {
     let w = norm_words::word_in(bits::read_bits(s, at, 7));
-    let n = w.bits;
-    if left < n {
+    let bits = w.bits;
+    if left < bits {
         return Word::No(Refusal::Past);
     }
-    Word::At(w.number as u16, at + n)
+    Word::At(w.number as u16, at + bits)
 }
 
 fn reading_entry(table: &[u8; 512], k: usize) -> usize
@@ -106,69 +104,6 @@ pub fn read_word_by(table: &[u8; 512], s: &[u8], at: usize, end: usize, kind: u8
     norm_word(s, at, left)
 }
 
-// The word of a short kind at a place: as many bits, or a norm word, and no look-up.
-pub fn read_short(s: &[u8], at: usize, end: usize, kind: u8) -> Word
-    requires { ⌜ T (short kind) ⌝ }
-    ensures { λ r. ⌜ r ≡ wordAt (now (s .entry)) at end kind ⌝ }
-{
-    let kind = size_from_u8(kind);
-    let left = minus(end, at);
-    if kind < FIRST_WORDS {
-        return fixed_word(s, at, left, kind);
-    }
-    norm_word(s, at, left)
-}
-
-// The word of a short kind with which eight bits begin.
-fn short_word(eight: usize, kind: u8) -> Found
-    requires { ⌜ (eight < 256) × T (short kind) ⌝ }
-    ensures { λ r. ⌜ ((s : List ℕ) (p m : ℕ) → eight ≡ val (view s p 8) → r .bits ≤ m → At (r .number) (p + r .bits) ≡ placed p m (unword (coding kind) (view s p m)))
-        × (r .bits ≤ 8) × (r .number < 65536) ⌝ }
-{
-    let kind = size_from_u8(kind);
-    if kind < FIRST_WORDS {
-        return Found {
-            number: eight >> (8 - kind),
-            bits: kind,
-        };
-    }
-    norm_words::word_in(eight / 2)
-}
-
-// Two words, one behind the other, where both are whole.
-pub struct Pair {
-    pub whole: bool,
-    pub first: u16,
-    pub second: u16,
-    pub next: usize,
-}
-
-// The words of two short kinds at a place, off one look at its bits; not whole where the second ends past the end.
-pub fn read_pair(s: &[u8], at: usize, end: usize, first: u8, second: u8) -> Pair
-    requires { ⌜ T (short first) × T (short second) ⌝ }
-    ensures { λ r. ⌜ (T (r .whole) → BothAt (now (s .entry)) at end first second (r .first) (r .second) (r .next)) ⌝ }
-{
-    let k = bits::read_bits(s, at, 16);
-    let a = short_word(k / 256, first);
-    let n = a.bits;
-    let b = short_word((k >> (8 - n)) % 256, second);
-    let bits = n + b.bits;
-    if minus(end, at) < bits {
-        return Pair {
-            whole: false,
-            first: 0,
-            second: 0,
-            next: 0,
-        };
-    }
-    Pair {
-        whole: true,
-        first: a.number as u16,
-        second: b.number as u16,
-        next: at + bits,
-    }
-}
-
 // The word of a kind at a place, all of it before the end: the bits from the end on never help to finish a word.
 pub fn read_word(s: &[u8], at: usize, end: usize, kind: u8) -> Word
     ensures { λ r. ⌜ r ≡ wordAt (now (s .entry)) at end kind ⌝ }
@@ -206,22 +141,6 @@ fn column_spelling(table: &[u16; 60], c: usize, v: usize) -> Spelling
         bits: e % 8,
         value: e / 8,
     }
-}
-
-// The word of a short kind for a number; no bits where it has none.
-fn short_spelling(kind: u8, v: u16) -> Spelling
-    requires { ⌜ T (short kind) ⌝ }
-    ensures { λ r. ⌜ (word (r .bits) (r .value) ≡ wordOf (coding kind) v) × (r .bits ≤ 8) × (r .value < 65536) ⌝ }
-{
-    let kind = size_from_u8(kind);
-    let v = size_from_u16(v);
-    if kind < FIRST_WORDS {
-        return Spelling {
-            bits: kind,
-            value: v,
-        };
-    }
-    norm_words::spelling_of(v)
 }
 
 // The word of a kind for a number; no bits where it has none.
@@ -262,20 +181,6 @@ pub fn write_word(s: &mut [u8], at: usize, kind: u8, v: u16) -> usize
 {
     let table = tables::WRITING;
     write_word_by(&table, s, at, kind, v)
-}
-
-// Writes the words of two short kinds for two numbers, one behind the other and at once, and gives their length.
-pub fn write_pair(s: &mut [u8], at: usize, first: u8, a: u16, second: u8, b: u16) -> usize
-    requires { ⌜ T (short first) × T (short second) ⌝ }
-    ensures { λ r. ⌜ (r ≡ length (wordOf (coding first) a ++ wordOf (coding second) b))
-        × (now (s .exit) ≡ laid (now (s .entry)) at (wordOf (coding first) a ++ wordOf (coding second) b)) ⌝ }
-{
-    let x = short_spelling(first, a);
-    let y = short_spelling(second, b);
-    let m = y.bits;
-    let n = x.bits + m;
-    bits::write_bits(s, at, n, (x.value << m) + y.value % (1 << m));
-    n
 }
 
 // The words of all columns of Table 20, to be lent.

@@ -1,33 +1,31 @@
 -- The shape by the tests of the code.
 -- Assumes nothing.
-use mathlib.Core.Path.{_≡_, refl, sym, ap, _∙_}
+use mathlib.Core.Path.{_≡_, refl}
 use Prim.Native.Nat.{ℕ, _+_, _-_, _*_, _/_, _%_, _^_, _≤_, _<_}
 use native.Mathlib.Omega.{arith}
 use borrow.Author.Tests.{eq-eqb, ne-eqb, lt-ltb, le-ltb}
-use Rattle.norm_words.specs.Shape.{bitOf, wordIn, middle, atLeast, moreBits, sevenOf, spelling, stepSize, beyond}
-use Rattle.norm_words.specs.declared.Found.{Found}
-use Rattle.norm_words.specs.declared.Spelling.{Spelling}
+use Rattle.norm_words.specs.Shape.{third, fourth, sixth, ofThree, ofFour, ofSix, ofSeven, wordIn, half, middle, atLeast, moreBits, sevenOf, spelling, stepSize, beyond}
 
 -- ---- reading: where the word ends
 
 module _ (seven : ℕ) where
-  pub ends-third : bitOf 3 seven ≡ 0 → record { number = seven / 32 + 4 * (4 - bitOf 1 seven); bits = 3 } ≡ wordIn seven
+  pub ends-third : third seven ≡ 0 → record { number = seven / 32 + 4 * ofThree seven; bits = 3 } ≡ wordIn seven
   unfolding wordIn
-  ends-third e = rw (eq-eqb (bitOf 3 seven) 0 e)
+  ends-third e = rw (eq-eqb (third seven) 0 e)
 
-  pub ends-fourth : (bitOf 3 seven ≡ 0 → ⊥) → bitOf 4 seven ≡ 0 → record { number = seven / 32 + 4 * (3 + bitOf 1 seven); bits = 4 } ≡ wordIn seven
+  pub ends-fourth : (third seven ≡ 0 → ⊥) → fourth seven ≡ 0 → record { number = seven / 32 + 4 * ofFour seven; bits = 4 } ≡ wordIn seven
   unfolding wordIn
-  ends-fourth a e = rw (ne-eqb (bitOf 3 seven) 0 a, eq-eqb (bitOf 4 seven) 0 e)
+  ends-fourth a e = rw (ne-eqb (third seven) 0 a, eq-eqb (fourth seven) 0 e)
 
-  pub ends-sixth : (bitOf 3 seven ≡ 0 → ⊥) → (bitOf 4 seven ≡ 0 → ⊥) → bitOf 6 seven ≡ 0
-      → record { number = seven / 32 + 4 * (2 + 3 * bitOf 5 seven); bits = 6 } ≡ wordIn seven
+  pub ends-sixth : (third seven ≡ 0 → ⊥) → (fourth seven ≡ 0 → ⊥) → sixth seven ≡ 0
+      → record { number = seven / 32 + 4 * ofSix seven; bits = 6 } ≡ wordIn seven
   unfolding wordIn
-  ends-sixth a b e = rw (ne-eqb (bitOf 3 seven) 0 a, ne-eqb (bitOf 4 seven) 0 b, eq-eqb (bitOf 6 seven) 0 e)
+  ends-sixth a b e = rw (ne-eqb (third seven) 0 a, ne-eqb (fourth seven) 0 b, eq-eqb (sixth seven) 0 e)
 
-  pub ends-last : (bitOf 3 seven ≡ 0 → ⊥) → (bitOf 4 seven ≡ 0 → ⊥) → (bitOf 6 seven ≡ 0 → ⊥)
-      → record { number = seven / 32 + 4 * (6 * bitOf 5 seven + seven % 2); bits = 7 } ≡ wordIn seven
+  pub ends-last : (third seven ≡ 0 → ⊥) → (fourth seven ≡ 0 → ⊥) → (sixth seven ≡ 0 → ⊥)
+      → record { number = seven / 32 + 4 * ofSeven seven; bits = 7 } ≡ wordIn seven
   unfolding wordIn
-  ends-last a b d = rw (ne-eqb (bitOf 3 seven) 0 a, ne-eqb (bitOf 4 seven) 0 b, ne-eqb (bitOf 6 seven) 0 d)
+  ends-last a b d = rw (ne-eqb (third seven) 0 a, ne-eqb (fourth seven) 0 b, ne-eqb (sixth seven) 0 d)
 
 -- ---- writing: how far the number is from the middle
 
@@ -59,7 +57,7 @@ unfolding moreBits
 more-are far a b d ea eb ed = rw (ea, eb, ed)
 
 pub seven-are : (v far a b d : ℕ) → a ≡ atLeast far 2 → b ≡ atLeast far 4 → d ≡ atLeast far 8
-    → v % 4 * 32 + a * 16 + b * 8 + v / 16 * 4 + d * 2 + v / 4 % 2 ≡ sevenOf v far
+    → v % 4 * 32 + a * 16 + b * 8 + half v * 4 + d * 2 + v / 4 % 2 ≡ sevenOf v far
 unfolding sevenOf
 seven-are v far a b d ea eb ed = rw (ea, eb, ed)
 

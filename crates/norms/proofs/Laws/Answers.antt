@@ -1,25 +1,21 @@
 -- The norms' causes by their tests, the FlagN choice, and that 0 is answered exactly for norms that can be written.
 -- Assumes nothing.
-use mathlib.Core.Path.{_≡_, sym, ap, _∙_}
-use mathlib.Core.Bool.{Bool, true, false}
-use mathlib.Core.List.{List, [], _∷_, map}
-use Prim.Native.Nat.{ℕ, _+_, _≤_, _<_}
+use mathlib.Core.Path.{_≡_, sym, ap}
+use mathlib.Core.Bool.{Bool, false}
+use mathlib.Core.List.{List, [], _∷_}
+use Prim.Native.Nat.{ℕ, _≤_, _<_}
 use lib.Dec.{ltb}
-use lib.ListN.{length, getD, drop, replicate}
+use lib.ListN.{length, getD}
 use native.Mathlib.Omega.{arith}
-use borrow.Author.Tests.{not-false, lt-ltb, le-ltb, ltb-true, ltb-false, eq-eqb, ne-eqb}
-use Rattle.ground.proofs.Laws.Cases.{by-bool}
+use borrow.Author.Tests.{not-false, ltb-false, eq-eqb, ne-eqb}
 use Rattle.ground.proofs.Laws.Indices.{range-yes, range-at}
 use Rattle.ground.specs.Replies.{done}
 use Rattle.ground.proofs.Laws.Refusals.{first-none, by-rows}
-use Rattle.bits.specs.Codecs.{writeAll}
-use Rattle.words.specs.Tables.{coding}
 use Rattle.order.specs.SentOrder.{sent}
 use Rattle.order.proofs.Laws.SentOrder.{length-sent, sent-first, sent-each, each-sent}
 use Rattle.norms.specs.Steps.{Near}
-use Rattle.norms.proofs.Laws.Steps.{length-numbers, near-range, near-first, steps-near}
-use Rattle.norms.specs.Part.{numbersOf, normKinds, normBits, Writable}
-use Rattle.norms.proofs.Laws.Part.{bits-split}
+use Rattle.norms.proofs.Laws.Steps.{near-range, near-first, steps-near}
+use Rattle.norms.specs.Part.{Writable}
 use Rattle.norms.specs.Answers.{normCauses, normReply, wordTotal, chosen, choiceOf}
 
 -- ---- what the code answers

@@ -14,7 +14,8 @@ use Rattle.bits.specs.Codings.{got}
 use Rattle.bits.specs.Codecs.{Verdict, fine, bad, readAll}
 use Rattle.bits.specs.declared.Refusal.{Refusal}
 use Rattle.bits.specs.declared.Refusal.the-variants.{Outside}
-use Rattle.words.specs.Tables.{coding, short}
+use Rattle.words.specs.Tables.{coding}
+use Rattle.short_words.specs.Short.{short}
 use Rattle.runs.specs.Runs.{runAt, ran, runReply, readSome, over}
 use Rattle.runs.proofs.Laws.Runs.{run-not, run-filled}
 use Rattle.runs.specs.declared.Run.{Run}

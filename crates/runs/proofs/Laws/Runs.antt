@@ -1,6 +1,6 @@
 -- A run of words read one by one: what is read so far, one word more, the first refusal, the end.
 -- Assumes nothing.
-use mathlib.Core.Path.{_≡_, refl, sym, ap, ap₂, _∙_, subst}
+use mathlib.Core.Path.{_≡_, refl, sym, ap, ap₂, _∙_}
 use mathlib.Core.Bool.{Bool}
 use mathlib.Core.List.{List, [], _∷_, _++_, append-assoc, append-nil, map}
 use Prim.Native.Nat.{ℕ, suc, _+_, _-_, _≤_, _<_}
@@ -16,7 +16,7 @@ use Rattle.bits.specs.Codecs.{readAll, andThen, writeAll}
 use Rattle.bits.proofs.Laws.Codecs.{andThen-got, written-read, fit-length}
 use Rattle.bits.specs.declared.Refusal.{Refusal}
 use Rattle.words.specs.Tables.{coding}
-use Rattle.words.specs.Answers.{placed, wordAt, BothAt}
+use Rattle.words.specs.Answers.{placed, wordAt}
 use Rattle.words.specs.declared.Word.{Word}
 use Rattle.words.specs.declared.Word.the-variants.{At, No}
 use Rattle.runs.specs.declared.Run.{Run}
@@ -213,16 +213,6 @@ module _ (s : List ℕ) (at end : ℕ) (kinds out : List ℕ) where
       let all : now ≡ vs = f ∙ ap (λ (x : List ℕ). over x out) q ∙ ap (λ (x : List ℕ). vs ++ x) (drop-of-length-le out {i = length vs} (omega arith))
       ∙ append-nil vs in
       (e ∙ ap (λ (x : List ℕ). got x (view s p (end - p))) (sym all), t, b)
-
--- two words read at once are two turns
-pub turn-two : {s : List ℕ} {at end : ℕ} {kinds out₀ out : List ℕ} {p i a b next : ℕ} → Reading s at end kinds out₀ out p i → length kinds ≤ length out₀
-    → i + 1 < length kinds → BothAt s p end (getD kinds i 0) (getD kinds (i + 1) 0) a b next
-    → Reading s at end kinds out₀ (set (set out i a) (i + 1) b) next (i + 2)
-turn-two {s} {at} {end} {kinds} {out₀} {out} {p} {i} {a} {b} {next} I room h B =
-    let A = turn I room (omega arith) {v = a} {next = B .middle} refl (B .one) in
-    let C = turn A room h {v = b} {next = next} refl (B .two) in
-    let e : i + 1 + 1 ≡ i + 2 = omega arith in
-    subst (λ (k : ℕ). Reading s at end kinds out₀ (set (set out i a) (i + 1) b) next k) e C
 
 pub run-not : (at left : ℕ) (g : Answer (List ℕ)) (x : Refusal) → run.No x ≡ ran at left g → g ≡ no x
 run-not at left (got vs r) x e = absurd (let z : _≡_ {A = ℕ} 0 1 = cc in omega arith)

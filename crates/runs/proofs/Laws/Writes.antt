@@ -1,6 +1,6 @@
 -- A run of words laid at a place: the loop's state, its turn and its end.
 -- Assumes nothing.
-use mathlib.Core.Path.{_≡_, refl, sym, ap, ap₂, _∙_, subst}
+use mathlib.Core.Path.{_≡_, refl, sym, ap, ap₂, _∙_}
 use mathlib.Core.Bool.{Bool}
 use mathlib.Core.List.{List, [], _∷_, _++_, append-assoc, append-nil, map}
 use Prim.Native.Nat.{ℕ, suc, _+_, _-_, _*_, _≤_, _<_}
@@ -64,27 +64,6 @@ module _ {s₀ : List ℕ} {at : ℕ} {kinds numbers : List ℕ} where
         let e : runBits kinds numbers ≡ I .bits =
         I .said ∙ ap (λ (x : List ℕ). I .bits ++ runBits x (drop i numbers)) (drop-of-length-le kinds h) ∙ append-nil (I .bits) in
         (I .many ∙ ap length (sym e), I .written ∙ ap (laid s₀ at) (sym e))
-
--- two words laid at once are two turns
-pub turn-two : {s₀ : List ℕ} {at : ℕ} {kinds numbers s t : List ℕ} {n m i : ℕ} → Writing s₀ at kinds numbers s n i
-    → i + 1 < length kinds → length kinds ≡ length numbers
-    → m ≡ length (wordOf (coding (getD kinds i 0)) (getD numbers i 0) ++ wordOf (coding (getD kinds (i + 1) 0)) (getD numbers (i + 1) 0))
-    → t ≡ laid s (at + n) (wordOf (coding (getD kinds i 0)) (getD numbers i 0) ++ wordOf (coding (getD kinds (i + 1) 0)) (getD numbers (i + 1) 0))
-    → Writing s₀ at kinds numbers t (n + m) (i + 2)
-turn-two {s₀} {at} {kinds} {numbers} {s} {t} {n} {m} {i} I h l e x =
-    let w = wordOf (coding (getD kinds i 0)) (getD numbers i 0) in
-    let u = wordOf (coding (getD kinds (i + 1) 0)) (getD numbers (i + 1) 0) in
-    let A = turn I (omega arith) l refl refl in
-    let p : at + n + length w ≡ at + (n + length w) = omega arith in
-    let B = turn A h l refl (x ∙ sym (laid-append s (at + n) w u) ∙ ap (λ (k : ℕ). laid (laid s (at + n) w) k u) p) in
-    let many : n + length w + length u ≡ n + m = omega (arith, length-append w u) in
-    let next : i + 1 + 1 ≡ i + 2 = omega arith in
-    subst (λ (k : ℕ). Writing s₀ at kinds numbers t k (i + 2)) many
-    (subst (λ (k : ℕ). Writing s₀ at kinds numbers t (n + length w + length u) k) next B)
-
--- two words have at most 32 bits
-pub pair-short : (j a k b m : ℕ) → m ≡ length (wordOf (coding j) a ++ wordOf (coding k) b) → m ≤ 32
-pair-short j a k b m e = omega (arith, length-append (wordOf (coding j) a) (wordOf (coding k) b), word-few j a, word-few k b)
 
 -- ---- counting the bits alone
 

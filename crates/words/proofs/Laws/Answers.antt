@@ -5,16 +5,13 @@ use mathlib.Core.List.{List}
 use Prim.Native.Nat.{ℕ, zero, suc, _+_, _-_, _≤_, _<_, min}
 use native.Mathlib.Nat.{add-zero}
 use native.Mathlib.Omega.{arith}
-use lib.Dec.{T, leb, leb→le}
 use lib.ListN.{length}
-use borrow.Author.Tests.{lt-leb, leb-true, leb-false}
-use Rattle.ground.proofs.Laws.Cases.{by-bool}
 use Rattle.bits.specs.Bits.{val, view}
 use Rattle.bits.proofs.Laws.Views.{length-view}
 use Rattle.bits.specs.Codings.{Coding, fixed, unword}
 use Rattle.bits.proofs.Laws.Codings.{fixed-fine, fixed-short}
 use Rattle.bits.specs.declared.Refusal.the-variants.{Past}
-use Rattle.words.specs.Tables.{words, refused, column, coding, short}
+use Rattle.words.specs.Tables.{words, refused, column, coding}
 use Rattle.words.specs.declared.Word.the-variants.{At, No}
 use Rattle.words.specs.Answers.{placed, wordAt}
 use Rattle.words.proofs.Laws.Tables.{coding-fixed, coding-column}
@@ -39,17 +36,6 @@ module _ {kind k : ℕ} (q : k ≡ kind) where
 
   pub coding-norm : 20 ≤ k → coding kind ≡ column 4
   coding-norm h = coding-code (omega arith) ∙ column-last (k - 16) (omega arith)
-
--- a short kind
-module _ {kind k : ℕ} (q : k ≡ kind) (t : T (short kind)) where
-  over-eight : 8 < k → 20 ≤ k
-  over-eight h = let l : T (leb 20 kind) = rw (lt-leb kind 8 (omega arith)) at t in omega (arith, leb→le 20 kind l)
-
-  pub short-norm : 16 ≤ k → 20 ≤ k
-  short-norm h = over-eight (omega arith)
-
-  pub short-bits : k < 16 → k ≤ 8
-  short-bits h = by-bool (leb k 8) (λ e. leb-true k 8 e) (λ e. absurd (omega (arith, over-eight (leb-false k 8 e))))
 
 -- ---- what the code answers
 

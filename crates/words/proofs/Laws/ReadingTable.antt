@@ -15,7 +15,7 @@ use Rattle.ground.proofs.Laws.PrintedTables.{every-at}
 use Rattle.bits.specs.Bits.{word, val, view}
 use Rattle.bits.proofs.Laws.NumbersAsBits.{word-val}
 use Rattle.bits.proofs.Laws.Views.{length-view, view-add, take-view, view-lt}
-use Rattle.bits.specs.Codings.{got, no, unword, find}
+use Rattle.bits.specs.Codings.{got, unword, find}
 use Rattle.bits.proofs.Laws.Codings.{find-word, find-cut, found-fine, found-refused, found-cut}
 use Rattle.bits.specs.declared.Refusal.the-variants.{Missing, Past}
 use Rattle.norm_words.specs.Table16.{table16}

@@ -11,7 +11,6 @@ use Rattle.bits.specs.Bits.{word}
 use Rattle.bits.specs.Codings.{fixed}
 use Rattle.bits.proofs.Laws.Codings.{prefixFree, apart, apartAll, Good}
 use Rattle.bits.proofs.Laws.Codecs.{GoodAll}
-use Rattle.norm_words.specs.Table16.{table16}
 use Rattle.norm_words.proofs.Laws.Shape.{free16, long16}
 use Rattle.words.specs.Tables.{words, refused, lacking, columnOf, table20, column, coding}
 

@@ -5,19 +5,19 @@ use mathlib.Core.Bool.{Bool}
 use mathlib.Core.List.{List, _++_}
 use Prim.Native.Nat.{ℕ, _+_, _-_, _/_, _%_, _^_, _≤_, _<_, min}
 use native.Mathlib.Omega.{arith}
-use lib.Dec.{T}
 use lib.ListN.{length}
 use Rattle.bits.specs.Bits.{val, view}
-use Rattle.bits.specs.Codings.{Coding, fixed, unword}
+use Rattle.bits.specs.Codings.{Coding, unword}
 use Rattle.bits.proofs.Laws.NumbersAsBits.{val-front, val-middle}
 use Rattle.bits.proofs.Laws.Views.{length-view, view-add}
 use Rattle.norm_words.specs.Shape.{wordIn}
 use Rattle.norm_words.specs.declared.Found.{Found}
-use Rattle.words.specs.Tables.{column, coding, short}
-use Rattle.words.specs.Answers.{placed, wordAt, BothAt}
+use Rattle.words.specs.Tables.{coding}
+use Rattle.words.specs.Answers.{placed, wordAt}
+use Rattle.short_words.specs.Short.{BothAt}
 use Rattle.words.specs.declared.Word.the-variants.{At}
 use Rattle.words.proofs.Laws.Answers.{coding-bits, coding-norm, fixed-whole}
-use Rattle.words.proofs.Laws.ReadingTable.{norm-number, norm-fine}
+use Rattle.words.proofs.Laws.ReadingTable.{norm-fine}
 
 -- the first n bits of some bits, and the eight behind them, by shifts
 first-bits : (s : List ℕ) (p n m : ℕ) → val (view s p (n + m)) / 2 ^ m ≡ val (view s p n)

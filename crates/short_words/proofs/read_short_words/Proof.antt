@@ -1,14 +1,15 @@
--- `runs::read_short_words` meets its contract: the numbers read so far stand in front, and the rest of the run begins at p; two words are two turns.
+-- `short_words::read_short_words` meets its contract: the numbers read so far stand in front, and the rest of the run begins at p; two words are two turns.
 -- Assumes nothing.
 use borrow.Author.Needs.{needs}
 use native.Mathlib.Omega.{arith}
 use Prim.Native.Nat.{_+_, _-_, _<_}
 use lib.ListN.{length, getD, length-set}
 use denote.Ref.{now}
-use Rattle.words.specs.Answers.{BothAt}
-use Rattle.runs.proofs.Laws.Runs.{Reading, start, turn, turn-two, refuses, finished}
-use Rattle.runs.proofs.read_short_words.Statement.{statement}
-use Rattle.runs.proofs.read_short_words.Tie as tie
+use Rattle.short_words.specs.Short.{BothAt}
+use Rattle.runs.proofs.Laws.Runs.{Reading, start, turn, refuses, finished}
+use Rattle.short_words.proofs.Laws.Turns.{read-two}
+use Rattle.short_words.proofs.read_short_words.Statement.{statement}
+use Rattle.short_words.proofs.read_short_words.Tie as tie
 
 abbrev Inv-loop : tie.InvT-loop
 Inv-loop s at end kinds out₀ p₀ i₀ out p i = Reading s at end kinds out₀ out p i
@@ -33,7 +34,7 @@ loop-again : tie.Need-loop-again Inv-loop μ-loop
 loop-again c =
     let t : tie.Then1 Inv-loop μ-loop = search in
     let l : tie.At-loop Inv-loop μ-loop = search in
-    turn-two (l .loop .inv) (search) (both t .0) (both t .1)
+    read-two (l .loop .inv) (search) (both t .0) (both t .1)
 
 -- a word is refused, and with it the run
 returns : tie.Need-returns Inv-loop μ-loop

@@ -1,11 +1,11 @@
--- `words::read_pair` meets its contract: the first word in eight bits, and the second in the eight behind it. Assumes nothing.
+-- `short_words::read_pair` meets its contract: the first word in eight bits, and the second in the eight behind it. Assumes nothing.
 use denote.Ref.{now}
 use native.Mathlib.Omega.{arith}
 use Rattle.bits.proofs.Laws.Views.{read-lt}
-use Rattle.words.proofs.Laws.Pairs.{both-at}
+use Rattle.short_words.proofs.Laws.ReadPairs.{both-at}
 use borrow.Author.Needs.{needs}
-use Rattle.words.proofs.read_pair.Statement.{statement}
-use Rattle.words.proofs.read_pair.Tie as tie
+use Rattle.short_words.proofs.read_pair.Statement.{statement}
+use Rattle.short_words.proofs.read_pair.Tie as tie
 
 short-word-requires : tie.Need-short-word-requires
 short-word-requires c κs =

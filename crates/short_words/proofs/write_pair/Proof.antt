@@ -1,10 +1,10 @@
--- `words::write_pair` meets its contract: two words made one are laid at once. Assumes nothing.
+-- `short_words::write_pair` meets its contract: two words made one are laid at once. Assumes nothing.
 use native.Mathlib.Omega.{arith}
 use Rattle.bits.proofs.Laws.NumbersAsBits.{shifted-pos}
-use Rattle.words.proofs.Laws.WritingTable.{pair-fits, pair-long, pair-laid}
+use Rattle.short_words.proofs.Laws.WrittenPairs.{pair-fits, pair-long, pair-laid}
 use borrow.Author.Needs.{needs}
-use Rattle.words.proofs.write_pair.Statement.{statement}
-use Rattle.words.proofs.write_pair.Tie as tie
+use Rattle.short_words.proofs.write_pair.Statement.{statement}
+use Rattle.short_words.proofs.write_pair.Tie as tie
 
 returns : tie.Need-returns
 returns c =

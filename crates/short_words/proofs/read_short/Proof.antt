@@ -1,9 +1,10 @@
--- `words::read_short` meets its contract: as many bits, or a norm word. Assumes nothing.
+-- `short_words::read_short` meets its contract: as many bits, or a norm word. Assumes nothing.
 use mathlib.Core.Path.{_∙_}
-use Rattle.words.proofs.Laws.Answers.{short-norm, at-fixed, at-norm}
+use Rattle.short_words.proofs.Laws.Kinds.{short-norm}
+use Rattle.words.proofs.Laws.Answers.{at-fixed, at-norm}
 use borrow.Author.Needs.{needs}
-use Rattle.words.proofs.read_short.Statement.{statement}
-use Rattle.words.proofs.read_short.Tie as tie
+use Rattle.short_words.proofs.read_short.Statement.{statement}
+use Rattle.short_words.proofs.read_short.Tie as tie
 
 pub read-short-spec : {M : Type 1} → statement M
 read-short-spec =

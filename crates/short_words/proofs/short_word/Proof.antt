@@ -1,12 +1,12 @@
--- `words::short_word` meets its contract: the first bits, or a norm word. Assumes nothing.
+-- `short_words::short_word` meets its contract: the first bits, or a norm word. Assumes nothing.
 use Prim.Native.Nat.{_-_, _^_, _≤_}
 use native.Mathlib.Nat.{div-le-self}
 use native.Mathlib.Omega.{arith}
-use Rattle.words.proofs.Laws.Answers.{short-norm, short-bits}
-use Rattle.words.proofs.Laws.Pairs.{short-fixed, short-word}
+use Rattle.short_words.proofs.Laws.Kinds.{short-norm, short-bits}
+use Rattle.short_words.proofs.Laws.ReadPairs.{short-fixed, short-word}
 use borrow.Author.Needs.{needs}
-use Rattle.words.proofs.short_word.Statement.{statement}
-use Rattle.words.proofs.short_word.Tie as tie
+use Rattle.short_words.proofs.short_word.Statement.{statement}
+use Rattle.short_words.proofs.short_word.Tie as tie
 
 few : (c : tie.Then1) → let u : tie.After-size-from-u8 = search in u .size-from-u8 .result ≤ 8
 few c =

@@ -1,9 +1,8 @@
--- `runs::two_at` meets its contract: no second kind, or the pair that is read. Assumes nothing.
-use borrow.Author.Needs.{needs}
+-- `short_words::two_at` meets its contract: no second kind, or the pair that is read. Assumes nothing.
 use native.Mathlib.Omega.{arith}
 use Prim.Native.Nat.{_+_}
-use Rattle.runs.proofs.two_at.Statement.{statement}
-use Rattle.runs.proofs.two_at.Tie as tie
+use Rattle.short_words.proofs.two_at.Statement.{statement}
+use Rattle.short_words.proofs.two_at.Tie as tie
 
 pub two-at-spec : {M : Type 1} → statement M
 two-at-spec =

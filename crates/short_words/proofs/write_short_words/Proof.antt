@@ -1,13 +1,14 @@
--- `runs::write_short_words` meets its contract: two words at a time, of an even count, are one run of bits. Assumes nothing.
+-- `short_words::write_short_words` meets its contract: two words at a time, of an even count, are one run of bits. Assumes nothing.
 use borrow.Author.Needs.{needs}
 use native.Mathlib.Omega.{arith}
 use mathlib.Core.Path.{_≡_}
 use Prim.Native.Nat.{_+_, _-_, _%_, _<_}
 use lib.ListN.{length}
 use denote.Ref.{now}
-use Rattle.runs.proofs.Laws.Writes.{Writing, start, turn-two, finished, pair-short}
-use Rattle.runs.proofs.write_short_words.Statement.{statement}
-use Rattle.runs.proofs.write_short_words.Tie as tie
+use Rattle.runs.proofs.Laws.Writes.{Writing, start, finished}
+use Rattle.short_words.proofs.Laws.Turns.{lay-two, pair-short}
+use Rattle.short_words.proofs.write_short_words.Statement.{statement}
+use Rattle.short_words.proofs.write_short_words.Tie as tie
 
 abbrev Inv-loop : tie.InvT-loop
 Inv-loop s₀ at kinds numbers n₀ i₀ s n i = Writing s₀ at kinds numbers s n i × (i % 2 ≡ 0)
@@ -29,7 +30,7 @@ loop-again : tie.Need-loop-again Inv-loop μ-loop
 loop-again c =
     let w : tie.After-write-pair Inv-loop μ-loop = search in
     let l : tie.At-loop Inv-loop μ-loop = search in
-    (turn-two (l .loop .inv .0) (two (search)) (search needs) (w .write-pair .ensures .0) (w .write-pair .ensures .1), omega (arith, l .loop .inv .1))
+    (lay-two (l .loop .inv .0) (two (search)) (search needs) (w .write-pair .ensures .0) (w .write-pair .ensures .1), omega (arith, l .loop .inv .1))
 
 pub write-short-words-spec : {M : Type 1} → statement M
 write-short-words-spec =
