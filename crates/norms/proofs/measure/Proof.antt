@@ -12,7 +12,7 @@ returns-3 : tie.Need-returns-3
 unfolding normCauses
 returns-3 c =
     let s : tie.After-steps-of = search in
-    let far = steps-far _ (s .steps-of .result .far) (s .steps-of .ensures .0) (search) in
+    let far = steps-far _ (s .steps-of .result .far) (s .steps-of .ensures .0) (omega arith) in
     (search by-rows, λ z. absurd (omega arith))
 
 -- none is, and the words are counted
@@ -20,7 +20,7 @@ returns-4 : tie.Need-returns-4
 unfolding normCauses
 returns-4 c =
     let s : tie.After-steps-of = search in
-    let near = steps-near _ (s .steps-of .result .far) (s .steps-of .ensures .0) (search) in
+    let near = steps-near _ (s .steps-of .result .far) (s .steps-of .ensures .0) (omega arith) in
     (search by-rows, λ z. s .steps-of .ensures .1)
 
 pub measure-spec : {M : Type 1} → statement M
