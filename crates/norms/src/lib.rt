@@ -143,7 +143,8 @@ struct Steps {
     bits: usize,
 }
 
-// One pass over indices in sent order. A difference is -15 to 16 exactly where its number is at most 15 from the middle.
+// One pass over indices in sent order. A difference is -15 to 16 exactly where its number is at most 15 from the middle. Each word has three bits and
+// some more; for a difference over 16, which has no word, seven were counted, and they are taken off.
 fn count_steps(ss: [u8; 44]) -> Steps
     ensures { λ r. ⌜ (leb (r .far) 15 ≡ stepsClose ss) × (r .bits ≡ stepTotal ss) × (r .bits ≤ 301) ⌝ }
 {
