@@ -5,14 +5,13 @@ ghost use mathlib.Core.List.{List, _++_, map};
 ghost use Prim.Native.Nat.{ℕ, _+_, _-_, _*_, _%_, _≤_, _<_};
 ghost use lib.Dec.{T};
 ghost use lib.ListN.{length, getD};
-ghost use Rattle.bits.specs.Bits.{word, val, view, laid};
-ghost use Rattle.bits.specs.Codings.{unword, wordOf};
+ghost use Rattle.bits.specs.Bits.{word, laid};
+ghost use Rattle.bits.specs.Codings.{wordOf};
 ghost use Rattle.bits.specs.Codecs.{writeAll};
 ghost use Rattle.words.specs.Tables.{coding};
-ghost use Rattle.words.specs.Answers.{placed, wordAt};
-ghost use Rattle.words.specs.declared.Word.the-variants.{At};
+ghost use Rattle.words.specs.Answers.{wordAt};
 ghost use Rattle.runs.specs.Runs.{ran, runAt, readSome, over};
-ghost use Rattle.short_words.specs.Short.{short, BothAt};
+ghost use Rattle.short_words.specs.Short.{short, FoundIn, pairAt, twoAt};
 use ground::numbers::minus;
 use ground::numbers::size_from_u8;
 use ground::numbers::size_from_u16;
@@ -25,7 +24,7 @@ use words::Word;
 const FIRST_WORDS: usize = 16;
 
 // The word of a short kind at a place: as many bits, or a norm word, and no look-up.
-pub fn read_short(s: &[u8], at: usize, end: usize, kind: u8) -> Word
+fn read_short(s: &[u8], at: usize, end: usize, kind: u8) -> Word
     requires { ⌜ T (short kind) ⌝ }
     ensures { λ r. ⌜ r ≡ wordAt (now (s .entry)) at end kind ⌝ }
 {
@@ -40,8 +39,7 @@ pub fn read_short(s: &[u8], at: usize, end: usize, kind: u8) -> Word
 // The word of a short kind with which eight bits begin.
 fn short_word(eight: usize, kind: u8) -> Found
     requires { ⌜ (eight < 256) × T (short kind) ⌝ }
-    ensures { λ r. ⌜ ((s : List ℕ) (p m : ℕ) → eight ≡ val (view s p 8) → r .bits ≤ m → At (r .number) (p + r .bits) ≡ placed p m (unword (coding kind) (view s p m)))
-        × (r .bits ≤ 8) × (r .number < 65536) ⌝ }
+    ensures { λ r. ⌜ FoundIn eight kind r ⌝ }
 {
     let kind = size_from_u8(kind);
     if kind < FIRST_WORDS {
@@ -53,18 +51,18 @@ fn short_word(eight: usize, kind: u8) -> Found
     norm_words::word_in(eight / 2)
 }
 
-// Two words, one behind the other, where both are whole.
-pub struct Pair {
-    pub whole: bool,
-    pub first: u16,
-    pub second: u16,
-    pub next: usize,
+// The numbers of two words, one behind the other, and the next place; zeros where they are not whole.
+struct Pair {
+    whole: bool,
+    first: u16,
+    second: u16,
+    next: usize,
 }
 
-// The words of two short kinds at a place, off one look at its bits; not whole where the second ends past the end.
-pub fn read_pair(s: &[u8], at: usize, end: usize, first: u8, second: u8) -> Pair
+// The words of two short kinds at a place, off one look at its bits; whole exactly where both end before the end.
+fn read_pair(s: &[u8], at: usize, end: usize, first: u8, second: u8) -> Pair
     requires { ⌜ T (short first) × T (short second) ⌝ }
-    ensures { λ r. ⌜ (T (r .whole) → BothAt (now (s .entry)) at end first second (r .first) (r .second) (r .next)) ⌝ }
+    ensures { λ r. ⌜ r ≡ pairAt (now (s .entry)) at end first second ⌝ }
 {
     let k = bits::read_bits(s, at, 16);
     let a = short_word(k / 256, first);
@@ -104,7 +102,7 @@ fn short_spelling(kind: u8, v: u16) -> Spelling
 }
 
 // Writes the words of two short kinds for two numbers, one behind the other and at once, and gives their length.
-pub fn write_pair(s: &mut [u8], at: usize, first: u8, a: u16, second: u8, b: u16) -> usize
+fn write_pair(s: &mut [u8], at: usize, first: u8, a: u16, second: u8, b: u16) -> usize
     requires { ⌜ T (short first) × T (short second) ⌝ }
     ensures { λ r. ⌜ (r ≡ length (wordOf (coding first) a ++ wordOf (coding second) b))
         × (now (s .exit) ≡ laid (now (s .entry)) at (wordOf (coding first) a ++ wordOf (coding second) b)) ⌝ }
@@ -117,11 +115,10 @@ pub fn write_pair(s: &mut [u8], at: usize, first: u8, a: u16, second: u8, b: u16
     n
 }
 
-// The words of the kinds at places i and i + 1, where both are whole.
+// The words of kinds i and i + 1; not whole where kind i is the last.
 fn two_at(s: &[u8], at: usize, end: usize, kinds: &[u8], i: usize) -> Pair
     requires { ⌜ (i < length (now kinds)) × ((i : ℕ) → i < length (now kinds) → T (short (getD (now kinds) i 0))) ⌝ }
-    ensures { λ r. ⌜ (T (r .whole) → (i + 1 < length (now (kinds .entry)))
-        × BothAt (now (s .entry)) at end (getD (now (kinds .entry)) i 0) (getD (now (kinds .entry)) (i + 1) 0) (r .first) (r .second) (r .next)) ⌝ }
+    ensures { λ r. ⌜ r ≡ twoAt (now (s .entry)) at end (now (kinds .entry)) i ⌝ }
 {
     if kinds.len() <= i + 1 {
         return Pair {

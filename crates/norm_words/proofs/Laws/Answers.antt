@@ -4,7 +4,8 @@ use mathlib.Core.Path.{_≡_, refl}
 use Prim.Native.Nat.{ℕ, _+_, _-_, _*_, _/_, _%_, _^_, _≤_, _<_}
 use native.Mathlib.Omega.{arith}
 use borrow.Author.Tests.{eq-eqb, ne-eqb, lt-ltb, le-ltb}
-use Rattle.norm_words.specs.Shape.{third, fourth, sixth, ofThree, ofFour, ofSix, ofSeven, wordIn, half, middle, atLeast, moreBits, sevenOf, spelling, stepSize, beyond}
+use Rattle.norm_words.specs.Shape.{third, fourth, sixth, ofThree, ofFour, ofSix, ofSeven, wordIn}
+use Rattle.norm_words.specs.Shape.{half, middle, atLeast, moreBits, sevenOf, spelling, stepSize, beyond}
 
 -- ---- reading: where the word ends
 

@@ -2,12 +2,11 @@
 -- Assumes nothing.
 use borrow.Author.Needs.{needs}
 use native.Mathlib.Omega.{arith}
-use Prim.Native.Nat.{_+_, _-_, _<_}
-use lib.ListN.{length, getD, length-set}
+use Prim.Native.Nat.{_-_}
+use lib.ListN.{length, length-set}
 use denote.Ref.{now}
-use Rattle.short_words.specs.Short.{BothAt}
 use Rattle.runs.proofs.Laws.Runs.{Reading, start, turn, refuses, finished}
-use Rattle.short_words.proofs.Laws.Turns.{read-two}
+use Rattle.short_words.proofs.Laws.Turns.{TwoAt, two-there, read-two}
 use Rattle.short_words.proofs.read_short_words.Statement.{statement}
 use Rattle.short_words.proofs.read_short_words.Tie as tie
 
@@ -25,16 +24,19 @@ both : (c : tie.Then1 Inv-loop μ-loop) →
     let l : tie.At-loop Inv-loop μ-loop = search in
     let a : tie.Start Inv-loop μ-loop = search in
     let r = c .before .two-at .result in
-    (l .loop .i + 1 < length (now (a .args .kinds)))
-    × BothAt (now (a .args .s)) (l .loop .p) (a .args .end) (getD (now (a .args .kinds)) (l .loop .i) 0) (getD (now (a .args .kinds)) (l .loop .i + 1) 0)
-    (r .first) (r .second) (r .next)
-both c = c .before .two-at .ensures (rw (c .if1 .taken) tt)
+    TwoAt (now (a .args .s)) (l .loop .p) (a .args .end) (now (a .args .kinds)) (l .loop .i) (r .first) (r .second) (r .next)
+both c = two-there (c .before .two-at .ensures) (rw (c .if1 .taken) tt)
+
+slice-write-out-2 : tie.Need-slice-write-out-2 Inv-loop μ-loop
+slice-write-out-2 c =
+    let l : tie.At-loop Inv-loop μ-loop = search in
+    omega (arith, both (search) .inside, length-set (l .loop .out) (l .loop .i) (c .before .two-at .result .first))
 
 loop-again : tie.Need-loop-again Inv-loop μ-loop
 loop-again c =
     let t : tie.Then1 Inv-loop μ-loop = search in
     let l : tie.At-loop Inv-loop μ-loop = search in
-    read-two (l .loop .inv) (search) (both t .0) (both t .1)
+    read-two (l .loop .inv) (search) (both t)
 
 -- a word is refused, and with it the run
 returns : tie.Need-returns Inv-loop μ-loop
@@ -52,13 +54,13 @@ read-short-words-spec =
     μ-loop
     (λ c. search start)
     two-at-requires
-    (λ c. omega (arith, both (search) .0))
-    (λ c. omega (arith, both (search) .0))
-    (λ c. omega (arith, both (search) .0))
-    (λ c. omega (arith, both (search) .0))
-    (λ c. let l : tie.At-loop Inv-loop μ-loop = search in omega (arith, both (search) .0, length-set (l .loop .out) (l .loop .i) (c .before .two-at .result .first)))
-    (λ c. omega (arith, both (search) .0))
-    (λ c. omega (arith, both (search) .0))
+    (λ c. omega (arith, both (search) .inside))
+    (λ c. omega (arith, both (search) .inside))
+    (λ c. omega (arith, both (search) .inside))
+    (λ c. omega (arith, both (search) .inside))
+    slice-write-out-2
+    (λ c. omega (arith, both (search) .inside))
+    (λ c. omega (arith, both (search) .inside))
     loop-again
     (λ c. search needs)
     (λ c κs. let a : tie.Start Inv-loop μ-loop = search in a .pre .1 _ (search))

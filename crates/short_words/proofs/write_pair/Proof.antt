@@ -6,6 +6,12 @@ use borrow.Author.Needs.{needs}
 use Rattle.short_words.proofs.write_pair.Statement.{statement}
 use Rattle.short_words.proofs.write_pair.Tie as tie
 
+add-write-bits : tie.Need-add-write-bits
+add-write-bits c =
+    let y : tie.After-short-spelling2 = search in
+    let x : tie.After-short-spelling = search in
+    record { fits = pair-fits (x .short-spelling .ensures) (y .short-spelling2 .ensures) }
+
 returns : tie.Need-returns
 returns c =
     let w : tie.After-write-bits = search in
@@ -25,7 +31,7 @@ write-pair-spec =
     (λ c. search needs)
     (λ c. search needs)
     (λ c. shifted-pos _ (omega arith))
-    (λ c. let y : tie.After-short-spelling2 = search in let x : tie.After-short-spelling = search in record { fits = pair-fits (x .short-spelling .ensures) (y .short-spelling2 .ensures) })
+    add-write-bits
     (λ c κs. search needs)
     (λ c. search needs)
     returns)

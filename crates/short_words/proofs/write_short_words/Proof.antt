@@ -17,14 +17,26 @@ abbrev μ-loop : tie.MeasureT-loop
 μ-loop s₀ at kinds numbers n₀ i₀ s n i = length kinds - i
 
 -- a second word stands behind the first
-two : (c : tie.In-loop Inv-loop μ-loop) → let l : tie.At-loop Inv-loop μ-loop = search in let a : tie.Start Inv-loop μ-loop = search in l .loop .i + 1 < length (now (a .args .kinds))
-two c = let l : tie.At-loop Inv-loop μ-loop = search in let a : tie.Start Inv-loop μ-loop = search in omega (arith, l .loop .inv .1, a .pre .1)
+two : (c : tie.In-loop Inv-loop μ-loop) →
+    let l : tie.At-loop Inv-loop μ-loop = search in
+    let a : tie.Start Inv-loop μ-loop = search in
+    l .loop .i + 1 < length (now (a .args .kinds))
+two c =
+    let l : tie.At-loop Inv-loop μ-loop = search in
+    let a : tie.Start Inv-loop μ-loop = search in
+    omega (arith, l .loop .inv .1, a .pre .1)
 
 write-pair-requires : tie.Need-write-pair-requires Inv-loop μ-loop
 write-pair-requires c κs =
     let l : tie.At-loop Inv-loop μ-loop = search in
     let a : tie.Start Inv-loop μ-loop = search in
     (a .pre .3 (l .loop .i) (search), a .pre .3 (l .loop .i + 1) (two (search)))
+
+add-n : tie.Need-add-n Inv-loop μ-loop
+add-n c =
+    let w : tie.After-write-pair Inv-loop μ-loop = search in
+    let l : tie.At-loop Inv-loop μ-loop = search in
+    omega (arith, two (search), l .loop .inv .0 .few, pair-short _ _ _ _ _ (w .write-pair .ensures .0))
 
 loop-again : tie.Need-loop-again Inv-loop μ-loop
 loop-again c =
@@ -49,7 +61,7 @@ write-short-words-spec =
     (λ c. omega (arith, two (search)))
     (λ c. omega (arith, two (search)))
     write-pair-requires
-    (λ c. let l : tie.At-loop Inv-loop μ-loop = search in omega (arith, two (search), l .loop .inv .0 .few, pair-short _ _ _ _ _ (c .before .before .write-pair .ensures .0)))
+    add-n
     (λ c. omega (arith, two (search)))
     (λ c. omega (arith, two (search)))
     loop-again
