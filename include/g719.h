@@ -46,9 +46,9 @@
 #include <stddef.h>
 #include <stdint.h>
 
-/* The version: three numbers, for #if too, and as a text, "0.2.0". While MAJOR is 0 a new MINOR may rename. */
+/* The version: three numbers, for #if too, and as a text, "0.3.0". While MAJOR is 0 a new MINOR may rename. */
 #define G719_VERSION_MAJOR 0
-#define G719_VERSION_MINOR 2
+#define G719_VERSION_MINOR 3
 #define G719_VERSION_PATCH 0
 #define G719_VERSION G719_DOTTED_(G719_VERSION_MAJOR, G719_VERSION_MINOR, G719_VERSION_PATCH)
 /* These two serve G719_VERSION alone. */
@@ -80,6 +80,7 @@ enum {
     G719_MOST_NOISE = 3,       /* the largest noise number; in a transient frame it is 0 */
     G719_MOST_RATE = 9,        /* the largest rate */
     G719_MOST_BUDGET = 2560,   /* the largest budget, in bits */
+    G719_MOST_ROUNDS = 257,    /* the most rounds that the sharing of a budget takes */
     G719_MOST_FRAMES = 3000,   /* the most sound frames of a recording, or blocks of one with several channels */
     G719_MOST_CHANNELS = 8     /* the most channels of a recording */
 };
@@ -221,12 +222,14 @@ typedef struct g719_shares {
     uint8_t reply;
     uint8_t rates[G719_BANDS]; /* 0 to 9 */
     uint16_t left;             /* bits of the budget that no band could take */
+    uint16_t rounds;           /* rounds of the contest: in each a band gets a step of its rate or is put out */
 } g719_shares;
 
 /* Weights and starting scores. Replies: 8 for an index over 39, 0. */
 G719_MUST_USE g719_weights g719_weigh(uint8_t transient, const uint8_t norms[G719_BANDS]);
 
-/* Rates and bits left; wide says whether bands 36 to 43 compete. Replies: 8 for an index over 39 or a budget over 2,560, 0. */
+/* Rates, bits left and rounds; wide says whether bands 36 to 43 compete. The rounds are what the rates add up to, and one for each
+ * competing band that ends below rate 9: at most budget / 8 + 44. Replies: 8 for an index over 39 or a budget over 2,560, 0. */
 G719_MUST_USE g719_shares g719_allot(uint8_t transient, uint8_t wide, const uint8_t norms[G719_BANDS], uint32_t budget);
 
 /* ---- Points: the lattice at rates 2 to 9, the codebook at rate 1 */

@@ -174,7 +174,8 @@ static void noise(void)
 
 /* ---- sharing the bits, points */
 
-/* A loud band among quiet ones comes to the largest rate and no further. */
+/* A loud band among quiet ones comes to the largest rate and no further. The most rounds are taken by 24 loud bands and twelve that
+ * come in at their eighth step. */
 static void budget_and_rate(void)
 {
     uint8_t n[G719_BANDS];
@@ -183,6 +184,9 @@ static void budget_and_rate(void)
     g719_shares s = g719_allot(0, 1, n, G719_MOST_BUDGET);
     CHECK(s.reply == G719_DONE && s.rates[0] == G719_MOST_RATE && s.rates[G719_BANDS - 1] > 0);
     CHECK(g719_allot(0, 1, n, G719_MOST_BUDGET + 1).reply == G719_OUT_OF_RANGE);
+    memset(n, 0, 24);
+    memset(n + 24, 14, 12);
+    CHECK(g719_allot(0, 1, n, G719_MOST_BUDGET).rounds == G719_MOST_ROUNDS);
     CHECK(8 * G719_BODY_BYTES(G719_MOST_MODE) == G719_MOST_BUDGET);
     static const uint16_t zeros[G719_POINT_PLACES];
     static const int16_t origin[G719_POINT_PLACES];

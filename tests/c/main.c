@@ -108,7 +108,7 @@ static void structs(void)
 {
     CHECK(sizeof(g719_prefix) == 6 && sizeof(g719_byte) == 2 && sizeof(g719_record) == 52);
     CHECK(sizeof(g719_reading) == 72 && sizeof(g719_writing) == 16 && sizeof(g719_choice) == 2);
-    CHECK(sizeof(g719_norms) == 45 && sizeof(g719_weights) == 134 && sizeof(g719_shares) == 48);
+    CHECK(sizeof(g719_norms) == 45 && sizeof(g719_weights) == 134 && sizeof(g719_shares) == 50);
     CHECK(sizeof(g719_point) == 18 && sizeof(g719_index) == 18 && sizeof(g719_row) == 2 && sizeof(g719_check) == 16);
     CHECK(sizeof(g719_parts) == 52);
     CHECK(sizeof(g719_block) == 592 && sizeof(g719_records) == 424 && sizeof(g719_copied) == 24);
@@ -137,6 +137,7 @@ static void structs(void)
     FIELD(g719_weights, scores, 46, 88);
     FIELD(g719_shares, rates, 1, 44);
     FIELD(g719_shares, left, 46, 2);
+    FIELD(g719_shares, rounds, 48, 2);
     FIELD(g719_point, at, 2, 16);
     FIELD(g719_index, at, 2, 16);
     FIELD(g719_row, index, 1, 1);
@@ -259,18 +260,45 @@ static void shares(void)
     uint8_t norms[G719_BANDS];
     memset(norms, 20, sizeof norms);
     g719_shares s = g719_allot(0, 1, norms, 414);
-    CHECK(s.reply == G719_DONE && s.rates[0] == 2 && all_bytes(s.rates + 1, 29, 1) && all_bytes(s.rates + 30, 14, 0) && s.left == 6);
+    CHECK(s.reply == G719_DONE && s.rates[0] == 2 && all_bytes(s.rates + 1, 29, 1) && all_bytes(s.rates + 30, 14, 0));
+    CHECK(s.left == 6 && s.rounds == 75);
     s = g719_allot(0, 1, norms, 500);
-    CHECK(s.reply == G719_DONE && all_bytes(s.rates, 34, 1) && all_bytes(s.rates + 34, 10, 0) && s.left == 4);
+    CHECK(s.reply == G719_DONE && all_bytes(s.rates, 34, 1) && all_bytes(s.rates + 34, 10, 0));
+    CHECK(s.left == 4 && s.rounds == 78);
     s = g719_allot(1, 0, norms, G719_MOST_BUDGET);
     CHECK(s.reply == G719_DONE && s.rates[35] > 0 && all_bytes(s.rates + 36, 8, 0));
     s = g719_allot(0, 1, norms, G719_MOST_BUDGET);
     CHECK(s.reply == G719_DONE && s.rates[43] > 0);
     s = g719_allot(0, 1, norms, G719_MOST_BUDGET + 1);
-    CHECK(s.reply == G719_OUT_OF_RANGE && all_bytes(s.rates, 44, 0) && s.left == 0);
+    CHECK(s.reply == G719_OUT_OF_RANGE && all_bytes(s.rates, 44, 0) && s.left == 0 && s.rounds == 0);
     CHECK(g719_allot(0, 1, norms, UINT32_MAX).reply == G719_OUT_OF_RANGE);
     norms[0] = 40;
-    CHECK(g719_allot(0, 1, norms, 414).reply == G719_OUT_OF_RANGE);
+    s = g719_allot(0, 1, norms, 414);
+    CHECK(s.reply == G719_OUT_OF_RANGE && s.left == 0 && s.rounds == 0);
+}
+
+/* Rounds by the rates: one for each step, and one for each competing band that ends below the largest rate. */
+static unsigned rounds_of(const g719_shares *s, unsigned competing)
+{
+    unsigned rounds = 0;
+    for (unsigned b = 0; b < G719_BANDS; b++)
+        rounds += s->rates[b] + (b < competing && s->rates[b] < G719_MOST_RATE);
+    return rounds;
+}
+
+/* Sixteen loud bands: the bound budget / 8 + 44 is reached up to 1,031 bits and not beyond; who does not compete takes no round. */
+static void rounds(void)
+{
+    uint8_t norms[G719_BANDS];
+    memset(norms, G719_MOST_NORM, sizeof norms);
+    memset(norms, 0, 16);
+    for (uint32_t budget = 0; budget <= G719_MOST_BUDGET; budget++) {
+        g719_shares s = g719_allot(0, 1, norms, budget);
+        CHECK(s.reply == G719_DONE && s.rounds == rounds_of(&s, G719_BANDS));
+        CHECK((s.rounds == budget / 8 + 44) == (budget <= 1031) && s.rounds <= budget / 8 + 44);
+        s = g719_allot(1, 0, norms, budget);
+        CHECK(s.reply == G719_DONE && s.rounds == rounds_of(&s, 36));
+    }
 }
 
 /* ---- points */
@@ -838,7 +866,8 @@ static void allot_arguments(void)
         for (unsigned w = 0; w < 256; w++) {
             g719_shares s = g719_allot((uint8_t)t, (uint8_t)w, r.norms, 2000);
             const g719_shares *as = &shares[t != 0][w != 0];
-            CHECK(s.reply == G719_DONE && memcmp(s.rates, as->rates, sizeof s.rates) == 0 && s.left == as->left);
+            CHECK(s.reply == G719_DONE && memcmp(s.rates, as->rates, sizeof s.rates) == 0);
+            CHECK(s.left == as->left && s.rounds == as->rounds);
         }
 }
 
@@ -1287,6 +1316,7 @@ int main(void)
     legal_norms();
     weights();
     shares();
+    rounds();
     lattice_examples();
     lattice_there_and_back();
     codebook();

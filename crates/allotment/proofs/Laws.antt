@@ -1,3 +1,5 @@
 -- The laws of this crate, for its own proofs and for the crates above.
 pub mod Fair
 pub mod Rates
+pub mod RoundsByRates
+pub mod RoundsTaken

@@ -9,7 +9,7 @@ use Rattle.weights.specs.Weights.{nthZ, scoresOf}
 use Rattle.ground.specs.Indices.{inRange}
 use Rattle.contest.specs.Bands.{lengthOf, competing}
 use Rattle.contest.specs.Grants.{Grant, granting}
-use Rattle.contest.specs.Rounds.{Game, played, rates}
+use Rattle.contest.specs.Rounds.{Game, played, roundsPlayed, rates}
 use Rattle.allotment.specs.declared.Shares.{Shares}
 
 -- the end of the contest that starts from the scores of 7.5.1
@@ -27,9 +27,18 @@ ratesOf transient wide norms budget = rates (endOf transient wide norms budget)
 unfoldable pub leftOf : Bool → Bool → List ℕ → ℕ → ℕ
 leftOf transient wide norms budget = endOf transient wide norms budget .left
 
--- what the call answers: 0, the rates and the bits left, or 8 and zeros for an index over 39 or a budget over 2,560
+-- the number of rounds that this contest takes (02, No. 5)
+unfoldable pub roundsOf : Bool → Bool → List ℕ → ℕ → ℕ
+roundsOf transient wide norms budget = roundsPlayed lengthOf (nthZ (scoresOf transient norms)) (competing wide) budget
+
+-- what the call answers: 0, the rates, the bits left and the number of rounds, or 8 and zeros for an index over 39 or a budget over 2,560
 unfoldable pub sharesOf : Bool → Bool → List ℕ → ℕ → Shares
 sharesOf transient wide norms budget =
     cond (inRange norms 44 && leb budget 2560)
-    (record { reply = done; rates = ratesOf transient wide norms budget; left = leftOf transient wide norms budget })
-    (record { reply = outOfRange; rates = replicate 44 0; left = 0 })
+    (record {
+      reply = done;
+      rates = ratesOf transient wide norms budget;
+      left = leftOf transient wide norms budget;
+      rounds = roundsOf transient wide norms budget;
+    })
+    (record { reply = outOfRange; rates = replicate 44 0; left = 0; rounds = 0 })

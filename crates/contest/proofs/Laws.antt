@@ -4,5 +4,6 @@ pub mod Ends
 pub mod Fair
 pub mod Grants
 pub mod SharesFairly
+pub mod CountedRounds
 pub mod RaisedContest
 pub mod Rounds

@@ -7,6 +7,7 @@ use lib.IntN.{ℤ, pos, _-ℤ_}
 use lib.ListN.{getD, set}
 use lib.Signed.{ltZ}
 use Rattle.ground.specs.ListsByRule.{table}
+use Rattle.ground.specs.Sums.{sumTo}
 
 -- a band in the contest: its length, its score, its rate so far, and whether it still competes
 pub record Band : Type 0 where
@@ -61,6 +62,11 @@ unfoldable pub contest : ℕ → Game → Game
 contest zero g = g
 contest (suc n) g = elim (ahead g .competes) [ true ↦ contest n (round g) | false ↦ g ]
 
+-- how many of n rounds are played: the recursion of `contest`, one for each round, in which a band is served or put out
+unfoldable pub counted : ℕ → Game → ℕ
+counted zero g = 0
+counted (suc n) g = elim (ahead g .competes) [ true ↦ suc (counted n (round g)) | false ↦ 0 ]
+
 -- (32): the start, all rates 0, from each band's length, score and whether it competes
 unfoldable pub begin : (ℕ → ℕ) → (ℕ → ℤ) → (ℕ → Bool) → ℕ → Game
 begin size score competes budget = record { bands = table 44 (λ p. record { size = size p; score = score p; rate = 0; competes = competes p }); left = budget }
@@ -69,6 +75,15 @@ begin size score competes budget = record { bands = table 44 (λ p. record { siz
 unfoldable pub played : (ℕ → ℕ) → (ℕ → ℤ) → (ℕ → Bool) → ℕ → Game
 played size score competes budget = contest 396 (begin size score competes budget)
 
+-- 02, No. 5: the number of rounds of the contest, as `played`
+unfoldable pub roundsPlayed : (ℕ → ℕ) → (ℕ → ℤ) → (ℕ → Bool) → ℕ → ℕ
+roundsPlayed size score competes budget = counted 396 (begin size score competes budget)
+
 -- the rates of a state
 unfoldable pub rates : Game → List ℕ
 rates g = table 44 (λ p. at (g .bands) p .rate)
+
+-- 02, No. 5: what the number of rounds equals, the sum of all final rates plus the number of competing bands that end below rate 9
+-- (proofs/Laws/CountedRounds, rounds-sum)
+unfoldable pub roundsByRates : (ℕ → Bool) → (ℕ → ℕ) → ℕ
+roundsByRates competes rate = sumTo rate 44 + sumTo (λ p. cond (competes p && ltb (rate p) 9) 1 0) 44

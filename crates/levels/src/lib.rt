@@ -162,7 +162,8 @@ fn serve_rest(keys: &[u16; 44], sizes: &[u16; 44], start: [u8; 44], budget: u16)
     Ends { rates, left }
 }
 
-fn competes(wide: bool, p: usize) -> bool
+// All 44 compete, or only bands 0 to 35.
+pub fn competes(wide: bool, p: usize) -> bool
     ensures { λ r. ⌜ r ≡ competing wide p ⌝ }
 {
     wide || p < 36

@@ -12,4 +12,5 @@ pub mod Demand3
 pub mod Recordings
 pub mod Channels
 pub mod NormWords
+pub mod Rounds
 pub mod Stars

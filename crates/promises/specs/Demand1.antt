@@ -97,7 +97,7 @@ pub record Zeros : Type 0 where
   pub weigh : (transient : Bool) (norms : List ℕ) → let a = call.weigh transient norms in Refused (a .reply)
       → a ≡ record { reply = a .reply; weights = replicate 44 0; scores = replicate 44 (pos 0) }
   pub allot : (transient wide : Bool) (norms : List ℕ) (budget : ℕ) → let a = call.allot transient wide norms budget in Refused (a .reply)
-      → a ≡ record { reply = a .reply; rates = replicate 44 0; left = 0 }
+      → a ≡ record { reply = a .reply; rates = replicate 44 0; left = 0; rounds = 0 }
   pub lattice-point : (rate : ℕ) (index : List ℕ) → let a = call.lattice-point rate index in Refused (a .reply)
       → a ≡ record { reply = a .reply; at = replicate 8 (pos 0) }
   pub lattice-index : (rate : ℕ) (point : List ℤ) → let a = call.lattice-index rate point in Refused (a .reply)

@@ -6,4 +6,5 @@ pub mod Demand3
 pub mod Recordings
 pub mod Channels
 pub mod NormWords
+pub mod Rounds
 pub mod Stars

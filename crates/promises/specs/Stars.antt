@@ -61,10 +61,10 @@ starred =
     ∷ (listingOf (0x00 ∷ 0x00 ∷ []) ≡ ascii "0000 14 0\n0001 14 0\ntotal 2 answer 0 at 2\n")
     -- Stationary, 80 bytes, all indices 20, FlagN 0, FlagL 1: Ψ 414; rate 2 for band 0, 1 for 1–29, else 0; 6 left
     ∷ (budgetOf 640 (flags false) twenties ≡ 414)
-    ∷ (sharesOf false (allCompete 640 true) twenties 414 ≡ record { reply = 0; rates = 2 ∷ replicate 29 1 ++ replicate 14 0; left = 6 })
+    ∷ (sharesOf false (allCompete 640 true) twenties 414 ≡ record { reply = 0; rates = 2 ∷ replicate 29 1 ++ replicate 14 0; left = 6; rounds = 75 })
     -- Same, FlagN 1: Ψ 500; rate 1 for 0–33; 4 left. With FlagC 0 the body begins 6A 6D B6 DB 6D
     ∷ (budgetOf 640 (flags true) twenties ≡ 500)
-    ∷ (sharesOf false (allCompete 640 true) twenties 500 ≡ record { reply = 0; rates = replicate 34 1 ++ replicate 10 0; left = 4 })
+    ∷ (sharesOf false (allCompete 640 true) twenties 500 ≡ record { reply = 0; rates = replicate 34 1 ++ replicate 10 0; left = 4; rounds = 78 })
     ∷ ((noise bits : ℕ) (codes tail : List ℕ) → take 5 (drop 1 (bytesFor (small noise bits) codes tail)) ≡ 0x6A ∷ 0x6D ∷ 0xB6 ∷ 0xDB ∷ 0x6D ∷ [])
     -- Weights, stationary, index 0 in band 0, 20 elsewhere: 0, 12, 25, 38, 51, then 64. The scores are 16 × 34, then 16 × 14 and the weight
     ∷ (weighed false (0 ∷ replicate 43 20)

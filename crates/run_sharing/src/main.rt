@@ -71,6 +71,8 @@ fn run(line: &[u8])
     show::numbers(&rates);
     show::text(b" left");
     show::number(s.left as u64);
+    show::text(b" rounds");
+    show::number(s.rounds as u64);
     show::line_end();
 }
 

@@ -31,7 +31,7 @@ same_fields! {
     Parts { reply, budget, rates, code_bits, tail_bits }
     Norms { reply, norms }
     Weights { reply, weights, scores }
-    Shares { reply, rates, left }
+    Shares { reply, rates, left, rounds }
     Point { reply, at }
     Index { reply, at }
     Row { reply, index }

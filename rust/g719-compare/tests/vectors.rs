@@ -220,6 +220,7 @@ fn norm_calls() {
             reply: line.number(),
             rates: line.array(),
             left: line.number(),
+            rounds: line.number(),
         };
         assert_eq!(found, wanted);
     });

@@ -129,9 +129,14 @@ fn norms_are_chosen_and_bits_shared() {
         assert_eq!(weighed, answer(reply, Weights { weights, scores }), "seed {seed}");
         let case = cases::allot_case(seed);
         let plain = reference::allot(case.transient, case.wide, &case.norms, case.budget);
-        let types::Shares { reply, rates, left } = plain;
+        let types::Shares {
+            reply,
+            rates,
+            left,
+            rounds,
+        } = plain;
         let shares = g719::allot(case.transient, case.wide, &case.norms, case.budget);
-        assert_eq!(shares, answer(reply, Shares { rates, left }), "seed {seed}");
+        assert_eq!(shares, answer(reply, Shares { rates, left, rounds }), "seed {seed}");
     }
 }
 

@@ -37,15 +37,17 @@ fn highest(scores: &[i16; BANDS]) -> Option<usize> {
     (scores[best] != OUT).then_some(best)
 }
 
-/// The rates and the bits left, for indices up to 39.
-pub(crate) fn share(transient: bool, wide: bool, norms: &[u8; BANDS], budget: u32) -> ([u8; BANDS], u32) {
+/// The rates, the bits left and the rounds, for indices up to 39.
+pub(crate) fn share(transient: bool, wide: bool, norms: &[u8; BANDS], budget: u32) -> ([u8; BANDS], u32, u16) {
     let (_, mut scores) = weights_and_scores(transient, norms);
     if !wide {
         scores[FIRST_WIDE..].fill(OUT);
     }
     let mut rates = [0; BANDS];
     let mut left = budget;
+    let mut rounds = 0;
     while let Some(band) = highest(&scores) {
+        rounds += 1;
         let length = length(band) as u32;
         if length > left {
             scores[band] = OUT;
@@ -59,23 +61,25 @@ pub(crate) fn share(transient: bool, wide: bool, norms: &[u8; BANDS], budget: u3
             scores[band] - STEP
         };
     }
-    (rates, left)
+    (rates, left, rounds)
 }
 
-/// The rates of the bands; bands 36–43 compete only if `wide`.
+/// The rates of the bands, the bits left and the rounds; bands 36–43 compete only if `wide`.
 pub fn allot(transient: bool, wide: bool, norms: &[u8; BANDS], budget: u32) -> Shares {
     if check_indices(norms).is_err() || budget > LARGEST_BUDGET {
         return Shares {
             reply: reply::OUT_OF_RANGE,
             rates: [0; BANDS],
             left: 0,
+            rounds: 0,
         };
     }
-    let (rates, left) = share(transient, wide, norms, budget);
+    let (rates, left, rounds) = share(transient, wide, norms, budget);
     Shares {
         reply: reply::DONE,
         rates,
         left: left as u16,
+        rounds,
     }
 }
 
@@ -89,16 +93,17 @@ mod tests {
         let mut rates = [0; BANDS];
         rates[..30].fill(1);
         rates[0] = 2;
-        assert_eq!((found.reply, found.rates, found.left), (0, rates, 6));
+        assert_eq!((found.reply, found.rates, found.left, found.rounds), (0, rates, 6, 75));
 
         let found = allot(false, true, &[20; BANDS], 500);
         let mut rates = [0; BANDS];
         rates[..34].fill(1);
-        assert_eq!((found.reply, found.rates, found.left), (0, rates, 4));
+        assert_eq!((found.reply, found.rates, found.left, found.rounds), (0, rates, 4, 78));
     }
 
-    /// Rates and bits left add up to the budget, and what is left fits no
-    /// competing band below rate 9.
+    /// Rates and bits left add up to the budget, what is left fits no
+    /// competing band below rate 9, and each round is a step or the end of a
+    /// competing band below 9.
     #[test]
     fn nothing_servable_is_left() {
         for budget in 0..=2560 {
@@ -115,6 +120,9 @@ mod tests {
                 assert_eq!(used + usize::from(found.left), budget as usize);
                 assert!((0..competing).all(|band| found.rates[band] == 9 || length(band) > found.left.into()));
                 assert!(found.rates[competing..].iter().all(|&rate| rate == 0));
+                let out = found.rates[..competing].iter().filter(|&&rate| rate < 9).count();
+                let steps: usize = found.rates.iter().map(|&rate| usize::from(rate)).sum();
+                assert_eq!(usize::from(found.rounds), steps + out);
             }
         }
     }

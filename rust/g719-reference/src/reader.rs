@@ -27,7 +27,7 @@ fn read_body(mode: u8, body: &[u8]) -> Result<Body<'_>, u8> {
 
     let norm_bits = bits.at() as u32 - FLAG_BITS;
     let budget = budget(body.len(), transient, norm_bits);
-    let (rates, _) = share(transient, wide(mode, flag_l), &norms, budget);
+    let (rates, ..) = share(transient, wide(mode, flag_l), &norms, budget);
     let end = bits.at() + budget as usize;
     let codes = take_codes(&mut bits, &rates, flag_c, end)?;
 

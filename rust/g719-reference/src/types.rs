@@ -89,12 +89,13 @@ pub struct Weights {
     pub scores: [i16; BANDS],
 }
 
-/// Rates of the bands and the bits left.
+/// Rates of the bands, the bits left and the rounds of the contest.
 #[derive(Clone, Copy, Debug, PartialEq, Eq)]
 pub struct Shares {
     pub reply: u8,
     pub rates: [u8; BANDS],
     pub left: u16,
+    pub rounds: u16,
 }
 
 /// A point of the lattice or of the rate-1 codebook.

@@ -22,7 +22,7 @@ pub fn plan(record: &Record) -> Result<Plan, u8> {
     let steps = steps(record.transient, &record.norms)?;
     let budget = budget(bytes, record.transient, norm_bits(record.flag_n, &steps));
     let wide = wide(record.mode, record.flag_l);
-    let (rates, _) = share(record.transient, wide, &record.norms, budget);
+    let (rates, ..) = share(record.transient, wide, &record.norms, budget);
     Ok(Plan { steps, budget, rates })
 }
 

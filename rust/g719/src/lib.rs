@@ -91,6 +91,8 @@ pub const FRAME_BYTES: usize = 321;
 pub const POINT_PLACES: usize = 8;
 /// The largest budget, in bits.
 pub const MOST_BUDGET: u32 = 2560;
+/// The most rounds that the sharing of a budget takes.
+pub const MOST_ROUNDS: u16 = 257;
 /// The most sound frames of a recording, or blocks of one with several channels.
 pub const MOST_FRAMES: u32 = 3000;
 /// The most channels of a recording.

@@ -19,6 +19,8 @@ pub struct Shares {
     pub rates: [u8; BANDS],
     /// Bits of the budget that no band could take.
     pub left: u16,
+    /// Rounds of the contest that gave the rates: in each a band gets a step of its rate or is put out.
+    pub rounds: u16,
 }
 
 /// Whether the 43 words of the differences are shorter than 43 fixed codes: the FlagN to choose.
@@ -59,17 +61,26 @@ pub fn weigh(transient: bool, norms: &[u8; BANDS]) -> Result<Weights, Refusal> {
     Ok(Weights { weights, scores })
 }
 
-/// Rates and bits left; `wide` says whether bands 36 to 43 compete.
+/// Rates, bits left and rounds; `wide` says whether bands 36 to 43 compete.
+///
+/// The rounds are as many as the rates add up to, and one for each competing band that ends below rate 9: at most
+/// `budget / 8 + 44`, and never more than [`MOST_ROUNDS`](crate::MOST_ROUNDS).
 ///
 /// Refused: [`OutOfRange`](Refusal::OutOfRange) for a norm over 39 or a budget over 2,560.
 ///
 /// ```
 /// let shares = g719::allot(false, true, &[20; g719::BANDS], 414)?;
 /// assert_eq!((shares.rates[0], shares.rates[29], shares.rates[30], shares.left), (2, 1, 0, 6));
+/// assert_eq!(shares.rounds, 75); // 31 steps, and 44 bands put out
 /// # Ok::<(), g719::Refusal>(())
 /// ```
 pub fn allot(transient: bool, wide: bool, norms: &[u8; BANDS], budget: u32) -> Result<Shares, Refusal> {
-    let raw::Shares { reply, rates, left } = raw::g719_allot(transient.into(), wide.into(), norms, budget);
+    let raw::Shares {
+        reply,
+        rates,
+        left,
+        rounds,
+    } = raw::g719_allot(transient.into(), wide.into(), norms, budget);
     answered(reply)?;
-    Ok(Shares { rates, left })
+    Ok(Shares { rates, left, rounds })
 }

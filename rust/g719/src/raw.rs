@@ -142,7 +142,7 @@ pub struct Weights {
     pub scores: [i16; BANDS],
 }
 
-/// Rates of the bands and the bits left.
+/// Rates of the bands, the bits left and the rounds of the contest.
 #[repr(C)]
 #[allow(missing_docs)]
 #[derive(Clone, Copy, Debug, PartialEq, Eq)]
@@ -150,6 +150,7 @@ pub struct Shares {
     pub reply: u8,
     pub rates: [u8; BANDS],
     pub left: u16,
+    pub rounds: u16,
 }
 
 /// A point of the lattice or of the rate-1 codebook.

@@ -19,28 +19,35 @@ use Rattle.weights.proofs.Laws.RaisedNumbers.{score-is}
 use Rattle.contest.specs.Bands.{lengthOf, competing}
 use Rattle.contest.specs.Fairness.{Fair}
 use Rattle.contest.proofs.Laws.RaisedContest.{Heights}
-use Rattle.contest.specs.Rounds.{at, played, rates}
+use Rattle.contest.specs.Rounds.{at, played, roundsByRates, rates}
+use Rattle.contest.proofs.Laws.CountedRounds.{rounds-sum}
 use Rattle.contest.proofs.Laws.SharesFairly.{rate-is, left-is, shared}
 use Rattle.levels.specs.declared.Ends.{Ends}
 use Rattle.levels.specs.Levels.{Room, settled}
 use Rattle.levels.specs.Levels as levels
 use Rattle.allotment.specs.declared.Shares.{Shares}
-use Rattle.allotment.specs.Allotment.{endOf, ratesOf, leftOf, sharesOf}
+use Rattle.allotment.specs.Allotment.{endOf, ratesOf, leftOf, roundsOf, sharesOf}
 
 -- ---- the answer, by the tests
 module _ (transient wide : Bool) (norms : List ℕ) (budget : ℕ) where
   pub shares-yes : inRange norms 44 ≡ true → budget ≤ 2560
-      → _≡_ {A = Shares} (record { reply = done; rates = ratesOf transient wide norms budget; left = leftOf transient wide norms budget })
+      → _≡_ {A = Shares}
+      (record {
+        reply = done;
+        rates = ratesOf transient wide norms budget;
+        left = leftOf transient wide norms budget;
+        rounds = roundsOf transient wide norms budget;
+      })
       (sharesOf transient wide norms budget)
   unfolding sharesOf
   shares-yes t h = rw (t, le-leb budget 2560 h)
 
   pub shares-norm : inRange norms 44 ≡ false
-      → _≡_ {A = Shares} (record { reply = outOfRange; rates = replicate 44 0; left = 0 }) (sharesOf transient wide norms budget)
+      → _≡_ {A = Shares} (record { reply = outOfRange; rates = replicate 44 0; left = 0; rounds = 0 }) (sharesOf transient wide norms budget)
   unfolding sharesOf
   shares-norm t = rw t
 
-  pub shares-budget : 2560 < budget → _≡_ {A = Shares} (record { reply = outOfRange; rates = replicate 44 0; left = 0 }) (sharesOf transient wide norms budget)
+  pub shares-budget : 2560 < budget → _≡_ {A = Shares} (record { reply = outOfRange; rates = replicate 44 0; left = 0; rounds = 0 }) (sharesOf transient wide norms budget)
   unfolding sharesOf
   shares-budget h = rw (lt-leb budget 2560 h, and-false (inRange norms 44))
 
@@ -94,16 +101,23 @@ module _ (transient wide : Bool) (norms : List ℕ) (budget : ℕ) (ws hs : List
       λ p b. rw (eh, getD-table (λ p. 912 - 16 * nth norms p + nth ws p) 44 0 p b, ew) in
       record { raised = λ p b. rw (same p b) (h .raised p b); room = λ p b. rw (same p b) (h .room p b) }
 
-  pub joined : (e : Ends) → e ≡ settled wide hs budget → budget ≤ 2560
-      → _≡_ {A = Shares} (record { reply = done; rates = e .rates; left = e .left }) (sharesOf transient wide norms budget)
-  unfolding settled levels.endOf ratesOf leftOf endOf
-  joined e q b =
+  pub joined : (e : Ends) (n : ℕ) → e ≡ settled wide hs budget → n ≡ roundsByRates (competing wide) (nth (e .rates)) → budget ≤ 2560
+      → _≡_ {A = Shares} (record { reply = done; rates = e .rates; left = e .left; rounds = n }) (sharesOf transient wide norms budget)
+  unfolding settled levels.endOf ratesOf leftOf roundsOf endOf
+  joined e n q k b =
       let r : e .rates ≡ ratesOf transient wide norms budget =
       ap (λ (x : Ends). x .rates) q
       ∙ sym (filled _ 44 0 (rates (played lengthOf (nthZ (scoresOf transient norms)) (competing wide) budget)) (rates-length transient wide norms budget)
       (rate-is lengthOf (nthZ (scoresOf transient norms)) (competing wide) budget (nth hs) raised)) in
       let l : e .left ≡ leftOf transient wide norms budget =
       ap (λ (x : Ends). x .left) q ∙ sym (left-is lengthOf (nthZ (scoresOf transient norms)) (competing wide) budget (nth hs) raised) in
-      ap (λ (x : List ℕ). record { reply = done; rates = x; left = e .left }) r
-      ∙ ap (λ (n : ℕ). record { reply = done; rates = ratesOf transient wide norms budget; left = n }) l
+      let m : n ≡ roundsOf transient wide norms budget =
+      k ∙ ap (λ (x : List ℕ). roundsByRates (competing wide) (nth x)) r ∙ sym (rounds-sum lengthOf (nthZ (scoresOf transient norms)) (competing wide) budget (nth hs) raised) in
+      (let same : _≡_ {A = Shares} (record { reply = done; rates = e .rates; left = e .left; rounds = n })
+      (record {
+        reply = done;
+        rates = ratesOf transient wide norms budget;
+        left = leftOf transient wide norms budget;
+        rounds = roundsOf transient wide norms budget;
+      }) = cc in same)
       ∙ shares-yes transient wide norms budget t b

@@ -20,6 +20,7 @@ allot-spec =
     (λ c κs. search (_∙_, sym))
     (λ c. search needs)
     settle-requires
+    (λ c κs. search needs)
     (λ c. search (joined, _∙_, sym))
     (λ c. search shares-budget)
     (λ c. search (shares-norm, _∙_, sym)))

@@ -110,7 +110,7 @@ turned-same g r false =
     ap (λ (l : List Z.Band). record { bands = l; left = g .left })
     (ap (set (map lower (g .bands)) (R.first g)) (dropped-same (R.ahead g)) ∙ sym (map-set (g .bands) (R.first g) (R.dropped (R.ahead g))))
 
-round-same : (g : Game) → Ready (R.ahead g) → round (lowered g) ≡ lowered (R.round g)
+pub round-same : (g : Game) → Ready (R.ahead g) → round (lowered g) ≡ lowered (R.round g)
 unfolding R.round R.fits
 round-same g r =
     round-by (lowered g) (R.first g) (lower (R.ahead g)) (first-same g) (ahead-same g)
@@ -119,20 +119,23 @@ round-same g r =
     ∙ turned-same g r (leb (R.ahead g .size) (g .left))
 
 -- ---- the whole contest
-on : (n : ℕ) (g : Z.Game) → ahead g .competes ≡ true → contest (suc n) g ≡ contest n (round g)
+pub on : (n : ℕ) (g : Z.Game) → ahead g .competes ≡ true → contest (suc n) g ≡ contest n (round g)
 unfolding contest
 on n g t = rw (t, contest)
 
-over : (n : ℕ) (g : Z.Game) → ahead g .competes ≡ false → contest n g ≡ g
+pub over : (n : ℕ) (g : Z.Game) → ahead g .competes ≡ false → contest n g ≡ g
 unfolding contest
 over zero g t = refl
 over (suc n) g t = rw (t, contest)
+
+pub in-same : (g : Game) → ahead (lowered g) .competes ≡ R.ahead g .competes
+in-same g = ap (λ (b : Z.Band). b .competes) (ahead-same g) ∙ lower-competes (R.ahead g)
 
 pub contest-same : (n : ℕ) (g : Game) → Able g → contest n (lowered g) ≡ lowered (R.contest n g)
 unfolding contest R.contest
 contest-same zero g a = refl
 contest-same (suc n) g a =
-    let c : ahead (lowered g) .competes ≡ R.ahead g .competes = ap (λ (b : Z.Band). b .competes) (ahead-same g) ∙ lower-competes (R.ahead g) in
+    let c = in-same g in
     by-bool (R.ahead g .competes)
     (λ t.
     on n (lowered g) (c ∙ t) ∙ ap (contest n) (round-same g (ready-ahead g a t)) ∙ contest-same n (R.round g) (able-round g a t)

@@ -26,7 +26,7 @@ use Rattle.contest.proofs.Laws.Ends.{pot-start, over}
 use Rattle.contest.proofs.Laws.Fair.{size-end, start-end, nine-end, bits, given, adds-up, paid, fair}
 use Rattle.contest.proofs.Laws.SameContest.{lowered, contest-same, begin-same, rate-same, competes-same, left-same}
 
-sum-list : (f : Band → ℕ) (l : List Band) → sumOf f l ≡ sumTo (λ p. f (at l p)) (length l)
+pub sum-list : (f : Band → ℕ) (l : List Band) → sumOf f l ≡ sumTo (λ p. f (at l p)) (length l)
 unfolding sumOf sumTo
 sum-list f [] = refl
 sum-list f (b ∷ l) = rw (sum-front (λ p. f (at (b ∷ l) p)) (length l)) (ap (λ n. f b + n) (sum-list f l))

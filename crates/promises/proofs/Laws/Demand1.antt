@@ -174,10 +174,10 @@ weigh-zeros transient norms =
     done-first (λ (a : Weights). a .reply) (λ x. record { reply = x; weights = replicate 44 0; scores = replicate 44 (pos 0) }) (inRange norms 44) _ _ refl refl
 
 allot-zeros : (transient wide : Bool) (norms : List ℕ) (budget : ℕ) → let a = sharesOf transient wide norms budget in Refused (a .reply)
-    → a ≡ record { reply = a .reply; rates = replicate 44 0; left = 0 }
+    → a ≡ record { reply = a .reply; rates = replicate 44 0; left = 0; rounds = 0 }
 unfolding sharesOf
 allot-zeros transient wide norms budget =
-    done-first (λ (a : Shares). a .reply) (λ x. record { reply = x; rates = replicate 44 0; left = 0 }) (inRange norms 44 && leb budget 2560) _ _ refl refl
+    done-first (λ (a : Shares). a .reply) (λ x. record { reply = x; rates = replicate 44 0; left = 0; rounds = 0 }) (inRange norms 44 && leb budget 2560) _ _ refl refl
 
 abbrev pointless : ℕ → Point
 pointless x = record { reply = x; at = replicate 8 (pos 0) }
