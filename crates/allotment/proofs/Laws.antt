@@ -1,5 +1,4 @@
 -- The laws of this crate, for its own proofs and for the crates above.
 pub mod Fair
 pub mod Rates
-pub mod RoundsByRates
 pub mod RoundsTaken

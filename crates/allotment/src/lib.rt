@@ -2,15 +2,12 @@
 // rounds that the contest takes.
 use ground::replies::DONE;
 use ground::replies::OUT_OF_RANGE;
-ghost use mathlib.Core.Bool.{true, cond, _&&_};
+ghost use mathlib.Core.Bool.{true};
 ghost use mathlib.Core.Path.{_≡_};
 ghost use Prim.Native.Nat.{ℕ, _+_, _-_, _*_, _≤_, _<_};
-ghost use lib.Dec.{ltb};
 ghost use Rattle.ground.specs.ListsByRule.{table};
 ghost use Rattle.ground.specs.Sums.{nth};
 ghost use Rattle.ground.specs.Indices.{inRange};
-ghost use Rattle.contest.specs.Bands.{competing};
-ghost use Rattle.contest.specs.Rounds.{roundsByRates};
 ghost use Rattle.allotment.specs.Allotment.{sharesOf};
 
 #[repr(C)]
@@ -42,32 +39,6 @@ fn heights_of(norms: &[u8; 44], ws: &[u8; 44]) -> [u16; 44]
     out
 }
 
-// The rounds that a band with such a rate took, a step each, and one in which it was put out below rate 9.
-fn rounds_with(competes: bool, rate: u8) -> u16
-    ensures { λ r. ⌜ (r ≡ rate + cond (competes && ltb rate 9) 1 0) × (r ≤ 256) ⌝ }
-{
-    let steps = rate as u16;
-    if competes {
-        if rate < 9 {
-            return steps + 1;
-        }
-    }
-    steps
-}
-
-// The number of rounds of a contest that ended with these rates.
-fn rounds_of(wide: bool, rates: &[u8; 44]) -> u16
-    ensures { λ r. ⌜ r ≡ roundsByRates (competing wide) (nth (now (rates .entry))) ⌝ }
-{
-    let mut sum: u16 = 0;
-    let mut i = 0;
-    while i < 44 {
-        sum += rounds_with(levels::competes(wide, i), rates[i]);
-        i += 1;
-    }
-    sum
-}
-
 // The rates of the 44 bands, the bits left and the number of rounds; 8 and zeros for an index over 39 or a budget over 2,560.
 pub fn allot(transient: bool, wide: bool, norms: [u8; 44], budget: u32) -> Shares
     ensures { λ r. ⌜ r ≡ sharesOf transient wide norms budget ⌝ }
@@ -82,7 +53,7 @@ pub fn allot(transient: bool, wide: bool, norms: [u8; 44], budget: u32) -> Share
                 reply: DONE,
                 rates,
                 left: ends.left,
-                rounds: rounds_of(wide, &rates),
+                rounds: rounds::by_rates(wide, &rates),
             };
         }
     }

@@ -12,5 +12,6 @@ pub mod Demand3
 pub mod Recordings
 pub mod Channels
 pub mod NormWords
+pub mod SharingExamples
 pub mod Rounds
 pub mod Stars

@@ -3,24 +3,20 @@
 use mathlib.Core.Path.{_≡_, refl, sym, ap, _∙_}
 use mathlib.Core.Bool.{Bool, true, false}
 use mathlib.Core.List.{List, _++_}
-use Prim.Native.Nat.{ℕ, _+_, _-_, _*_, _/_, _≤_, _<_}
+use Prim.Native.Nat.{ℕ, _-_, _*_, _≤_, _<_}
 use native.Mathlib.Omega.{arith}
 use lib.ListN.{replicate}
 use Rattle.ground.specs.Indices.{inRange}
-use Rattle.ground.specs.ListsByRule.{from}
-use Rattle.ground.specs.Replies.{done}
 use Rattle.ground.specs.Sums.{nth, sumTo}
-use Rattle.weights.specs.Table17.{table17, rowAt, has, seek, rowOf}
-use Rattle.weights.specs.Weights.{loudness, sumOver, spe, bspe, forward, backward, renormed, largest, smallest, mapped, louds, spes, rowWeights, spread}
-use Rattle.weights.specs.Weights.{weightsOf, score, scoresOf}
-use Rattle.contest.specs.Bands.{lengthOf, competing}
-use Rattle.contest.specs.Rounds.{Game, at, rates, behind, leader, granted, dropped, first, ahead, round, counted, begin, roundsPlayed, roundsByRates}
-use Rattle.allotment.specs.Allotment.{roundsOf, sharesOf}
+use Rattle.contest.specs.Bands.{lengthOf}
+use Rattle.contest.specs.Rounds.{Game, at, rates, roundsByRates}
+use Rattle.allotment.specs.Allotment.{sharesOf}
 use Rattle.allotment.specs.declared.Shares.{Shares}
 use Rattle.allotment.proofs.Laws.Fair.{demand3}
 use Rattle.allotment.proofs.Laws.RoundsTaken as allotment
-use Rattle.promises.specs.Rounds.{Rounds, RoundsTaken, rounds, rate, after}
+use Rattle.promises.specs.Rounds.{Rounds, RoundsTaken}
 use Rattle.promises.proofs.Laws.Demand1 as demand1
+use Rattle.promises.proofs.Laws.SharingExamples.{slowest}
 
 -- what bands shorter than 8, 16 and 24 bits lack of them, eight times
 lacking : (sumTo (λ p. 8 * (8 - lengthOf p)) 44 ≡ 0) × (sumTo (λ p. 8 * (16 - lengthOf p)) 44 ≡ 1024) × (sumTo (λ p. 8 * (24 - lengthOf p)) 44 ≡ 2560)
@@ -46,13 +42,6 @@ taken transient wide norms budget indices most =
       at-most-257 = omega (arith, bound 24, lacking .2);
     }
 
--- the two examples, computed from the definitions
-reached : (roundsOf false true (replicate 16 0 ++ replicate 28 39) 1031 ≡ 172) × (roundsOf false true (replicate 24 0 ++ replicate 12 14 ++ replicate 8 39) 2560 ≡ 257)
-unfolding
-    table17 rowAt has seek rowOf loudness sumOver spe bspe forward backward renormed largest smallest mapped louds spes rowWeights spread weightsOf score scoresOf
-    from lengthOf competing behind leader granted dropped first ahead round counted begin roundsPlayed roundsOf
-reached = (refl, refl)
-
 in-range : (inRange (replicate 16 0 ++ replicate 28 39) 44 ≡ true) × (inRange (replicate 24 0 ++ replicate 12 14 ++ replicate 8 39) 44 ≡ true)
 unfolding inRange
 in-range = (refl, refl)
@@ -63,6 +52,6 @@ rounds-counted =
     record {
       taken = taken;
       refused = λ transient wide norms budget no. ap (λ (a : Shares). a .rounds) (demand1.demand1 .zeros .allot transient wide norms budget no);
-      bound-reached = rw (in-range .0) (reached .0);
-      most-reached = rw (in-range .1) (reached .1);
+      bound-reached = rw (in-range .0) (slowest .0);
+      most-reached = rw (in-range .1) (slowest .1);
     }

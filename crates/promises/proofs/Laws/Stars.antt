@@ -20,7 +20,7 @@ use Rattle.norms.specs.Part.{normKinds, normBits}
 use Rattle.weights.specs.Weights.{weighed}
 use Rattle.weights.proofs.Examples as weights
 use Rattle.allotment.specs.Allotment.{sharesOf}
-use Rattle.allotment.proofs.Examples as allotment
+use Rattle.promises.proofs.Laws.SharingExamples as allotment
 use Rattle.points.specs.Answers.{pointOf}
 use Rattle.points.proofs.Examples as lattice
 use Rattle.kinds.specs.Budget.{noiseBits, allCompete}

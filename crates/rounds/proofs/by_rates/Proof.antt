@@ -4,9 +4,9 @@ use borrow.Author.Needs.{needs}
 use native.Mathlib.Omega.{arith}
 use Rattle.ground.specs.Sums.{sumTo}
 use Rattle.ground.proofs.Laws.FillingLoops.{Reaching, reaching}
-use Rattle.allotment.proofs.Laws.RoundsByRates.{ownRounds, own-none, own-next, own-all}
-use Rattle.allotment.proofs.rounds_of.Statement.{statement}
-use Rattle.allotment.proofs.rounds_of.Tie as tie
+use Rattle.rounds.proofs.Laws.RoundsByRates.{ownRounds, own-none, own-next, own-all}
+use Rattle.rounds.proofs.by_rates.Statement.{statement}
+use Rattle.rounds.proofs.by_rates.Tie as tie
 
 abbrev Inv-loop : tie.InvT-loop
 Inv-loop wide rates sum₀ i₀ sum i = Reaching 44 (sumTo (ownRounds wide rates)) sum i × (sum ≤ 256 * i)
@@ -14,8 +14,8 @@ Inv-loop wide rates sum₀ i₀ sum i = Reaching 44 (sumTo (ownRounds wide rates
 abbrev μ-loop : tie.MeasureT-loop
 μ-loop wide rates sum₀ i₀ sum i = 44 - i
 
-pub rounds-of-spec : {M : Type 1} → statement M
-rounds-of-spec =
+pub by-rates-spec : {M : Type 1} → statement M
+by-rates-spec =
     tie.close
     (tie.spec
     Inv-loop

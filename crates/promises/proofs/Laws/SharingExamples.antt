@@ -1,4 +1,5 @@
--- The starred examples of the allotment, and examples of our own: computed from the definitions.
+-- The starred examples of the allotment, and examples of our own: computed from the definitions. They stand here and not beside the allotment, whose wrong
+-- programs would each compute them anew.
 -- Assumes nothing.
 use mathlib.Core.Path.{_≡_, refl}
 use mathlib.Core.Bool.{true, false}
@@ -42,3 +43,12 @@ pub refused :
     × (sharesOf false true (replicate 44 20) 2561 ≡ record { reply = 8; rates = replicate 44 0; left = 0; rounds = 0 })
 unfolding inRange sharesOf
 refused = (refl, refl)
+
+-- the bound on the number of rounds reached, and the most rounds
+pub slowest :
+    (roundsOf false true (replicate 16 0 ++ replicate 28 39) 1031 ≡ 172)
+    × (roundsOf false true (replicate 24 0 ++ replicate 12 14 ++ replicate 8 39) 2560 ≡ 257)
+unfolding
+    table17 rowAt has seek rowOf loudness sumOver spe bspe forward backward renormed largest smallest mapped louds spes rowWeights spread weightsOf score scoresOf
+    from lengthOf competing behind leader granted dropped first ahead round counted begin roundsPlayed roundsOf
+slowest = (refl, refl)
