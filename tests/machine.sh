@@ -1,6 +1,6 @@
 # Sourced by the tests, from the top of the repository: how C and Rust are compiled for the library, which is for x86-64, and how what was
-# compiled is started on this machine. Sets compiler, starter, rust_built (where cargo puts what it builds) and no_rust (why Rust is not run, or
-# nothing).
+# compiled is started on this machine. Sets compiler, starter, rust_built (where cargo puts what it builds), no_rust (why Rust is not run, or
+# nothing) and, for the tests in Rust, G719_EMULATED.
 no_rust=
 rust_built=rust/target/debug
 if [ "$(uname -m)" = x86_64 ]; then
@@ -23,6 +23,7 @@ else
         export CARGO_BUILD_TARGET=x86_64-unknown-linux-gnu
         export CARGO_TARGET_X86_64_UNKNOWN_LINUX_GNU_LINKER=$compiler
         export CARGO_TARGET_X86_64_UNKNOWN_LINUX_GNU_RUNNER="${starter[*]}"
+        export G719_EMULATED=1
         rust_built=rust/target/$CARGO_BUILD_TARGET/debug
         no_rust=
         break

@@ -9,7 +9,6 @@ use native.Mathlib.Omega.{arith}
 use borrow.Author.Tests.{ltb-true, lt-ltb}
 use lib.Dec.{ltb}
 use lib.IntN.{ℤ}
-use lib.ListN.{length}
 use Rattle.ground.proofs.Laws.Cases.{by-bool}
 use Rattle.ground.specs.Sums.{nth, sumTo}
 use Rattle.ground.proofs.Laws.Sums.{sum-same, sum-both}
@@ -84,6 +83,8 @@ counted-taken (suc n) g a =
     (λ t. omega (arith, counted-over (suc n) (lowered g) (in-same g ∙ t), ap (λ (x : Game). sumOf taken (x .bands)) (contest-over (suc n) g t)))
 
 -- ---- how many they can be
+
+-- counted at w bits a round, the rounds of a band are at most w, the bits that it got, and eight times what it is shorter than w
 band-most : (w size rate : ℕ) (c : Bool) → rate ≤ 9 → w * (rate + cond (c && ltb rate 9) 1 0) ≤ w + rate * size + 8 * (w - size)
 band-most w size rate c h =
     let m : ℕ = min rate 8 in
@@ -162,8 +163,7 @@ module _ (size : ℕ → ℕ) (score : ℕ → ℤ) (competes : ℕ → Bool) (b
         sum-both rate (λ p. cond (competes p && ltb (rate p) 9) 1 0) 44,
       )
 
-  -- By a length w, each band takes w bits a round of its length and of eight times what it is shorter, and one round more. So w times the number of rounds
-  -- is at most the budget with these and with w for each band
+  -- counted at w bits a round, all rounds together are at most w for each band, the budget, and eight times what the bands are shorter than w
   pub rounds-most : (w : ℕ) → w * roundsPlayed size score competes budget ≤ w * 44 + budget + sumTo (λ p. 8 * (w - size p)) 44
   unfolding own roundsByRates
   rounds-most w =

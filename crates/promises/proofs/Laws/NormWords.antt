@@ -2,16 +2,15 @@
 -- Assumes nothing.
 use mathlib.Core.Path.{_≡_, ap₂}
 use mathlib.Core.Bool.{Bool}
-use mathlib.Core.List.{List, [], _++_}
+use mathlib.Core.List.{List, _++_}
 use Prim.Native.Nat.{ℕ, _+_, _-_, _≤_, _<_}
 use native.Mathlib.Omega.{arith}
 use lib.Dec.{leb}
-use lib.ListN.{length, getD}
+use lib.ListN.{length}
 use borrow.Author.Tests.{leb-true, leb-false}
 use Rattle.ground.proofs.Laws.Cases.{by-bool}
 use Rattle.bits.specs.Bits.{val}
 use Rattle.norm_words.specs.Shape.{byEnd, wordIn, moreBits, stepSize}
-use Rattle.norm_words.specs.declared.Found.{Found}
 use Rattle.norm_words.proofs.Laws.Shape.{shape-is-table, shape-reads, shape-writes, step-bits, step-far}
 use Rattle.promises.specs.NormWords.{NormWords, printed}
 
