@@ -174,8 +174,8 @@ static void noise(void)
 
 /* ---- sharing the bits, points */
 
-/* A loud band among quiet ones comes to the largest rate and no further. The most rounds are taken by 24 loud bands and twelve that
- * come in at their eighth step. */
+/* A loud band among quiet ones comes to the largest rate and no further. The most rounds are taken where the 24 shortest
+ * bands are loud, and what they leave goes to the next twelve. */
 static void budget_and_rate(void)
 {
     uint8_t n[G719_BANDS];

@@ -53,7 +53,7 @@ pub record Rounds : Type 0 where
   -- "A refused call reports 0"
   pub refused : (transient wide : Bool) (norms : List ℕ) (budget : ℕ) → (call.allot transient wide norms budget .reply ≡ done → ⊥)
       → call.allot transient wide norms budget .rounds ≡ 0
-  -- both bounds are reached: an eighth of 1,031, rounded down, plus 44, where the sixteen shortest bands are loud; and 257, where 24 bands are loud and the next
-  -- twelve, fourteen indices higher, come in at their eighth step
+  -- both bounds are reached: an eighth of 1,031, rounded down, plus 44, where the sixteen bands of 8 bits are loud; and 257, where those of 8 and 16
+  -- bits are loud and come to rate 8 or more, and what they leave goes to bands of 24
   pub bound-reached : call.allot false true (replicate 16 0 ++ replicate 28 39) 1031 .rounds ≡ 1031 / 8 + 44
   pub most-reached : call.allot false true (replicate 24 0 ++ replicate 12 14 ++ replicate 8 39) 2560 .rounds ≡ 257

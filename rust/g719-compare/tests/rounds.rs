@@ -55,8 +55,8 @@ fn an_eighth_of_the_budget_and_44() {
     }
 }
 
-/// All bands of 8 and 16 bits come to rate 8 before the first comes to 9, and
-/// what is left goes to bands of 24.
+/// All bands of 8 and 16 bits come to rate 8, and what they leave goes to bands
+/// of 24.
 #[test]
 fn most_rounds() {
     let norms = std::array::from_fn(|band| [0, 14, 39][usize::from(band >= 24) + usize::from(band >= 36)]);
