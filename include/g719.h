@@ -207,7 +207,8 @@ G719_MUST_USE g719_choice g719_choose_flag_n(uint8_t transient, const uint8_t no
  * looked at. Replies: 8 for the mode, 10 for under 800 numbers, 8 for an index over 39 or a first one over 31, 9, 12, 0. */
 G719_MUST_USE g719_choice g719_choose_flag_c(g719_record record, const uint16_t *codes, size_t codes_count);
 
-/* The greatest norms, nowhere above the given ones, that a frame of this kind can carry. Replies: 8 for an index over 39, 0. */
+/* The greatest norms, nowhere above the given ones, that a frame of this kind can carry: none is raised, none lowered more than it
+ * must be, and norms that can be carried come back as they are. Replies: 8 for an index over 39, 0. */
 G719_MUST_USE g719_norms g719_legalise(uint8_t transient, const uint8_t norms[G719_BANDS]);
 
 /* ---- Sharing the bits */

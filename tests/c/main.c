@@ -234,6 +234,47 @@ static void legal_norms(void)
     CHECK(n.reply == G719_OUT_OF_RANGE && all_bytes(n.norms, 44, 0));
 }
 
+/* which bands fall, and to what; no other does, and none of them could stand one higher */
+struct fall {
+    uint8_t band, to;
+};
+
+static void fallen(uint8_t transient, const uint8_t norms[G719_BANDS], const struct fall *falls, size_t count)
+{
+    uint8_t expected[G719_BANDS];
+    memcpy(expected, norms, sizeof expected);
+    for (size_t i = 0; i < count; i++)
+        expected[falls[i].band] = falls[i].to;
+    g719_norms legal = g719_legalise(transient, norms);
+    CHECK(legal.reply == G719_DONE && memcmp(legal.norms, expected, sizeof expected) == 0);
+    CHECK(g719_choose_flag_n(transient, legal.norms).reply == G719_DONE);
+    g719_norms again = g719_legalise(transient, legal.norms);
+    CHECK(again.reply == G719_DONE && memcmp(again.norms, legal.norms, sizeof again.norms) == 0);
+    for (size_t i = 0; i < count; i++) {
+        expected[falls[i].band]++;
+        CHECK(g719_choose_flag_n(transient, expected).reply != G719_DONE);
+        expected[falls[i].band]--;
+    }
+}
+
+/* the cases of docs/LOUD-PEAKS.md */
+static void loud_peaks(void)
+{
+    static const struct fall stationary[4] = { { 18, 30 }, { 19, 15 }, { 21, 16 }, { 22, 32 } };
+    static const struct fall transient[4] = { { 9, 30 }, { 16, 15 }, { 24, 16 }, { 28, 32 } };
+    static const struct fall between[7] = { { 0, 31 }, { 8, 35 }, { 9, 20 }, { 11, 21 }, { 12, 15 }, { 14, 16 }, { 15, 32 } };
+    uint8_t norms[G719_BANDS];
+    memset(norms, 36, sizeof norms);
+    norms[0] = 31;
+    norms[20] = 0;
+    fallen(0, norms, stationary, 4);
+    fallen(1, norms, transient, 4);
+    memset(norms, 39, sizeof norms);
+    norms[10] = 5;
+    norms[13] = 0;
+    fallen(0, norms, between, 7);
+}
+
 /* ---- sharing the bits */
 
 static void weights(void)
@@ -1314,6 +1355,7 @@ int main(void)
     prefix_written();
     flag_n();
     legal_norms();
+    loud_peaks();
     weights();
     shares();
     rounds();

@@ -1,5 +1,6 @@
 -- The laws of this crate, for its own proofs and for the crates above.
-pub mod Answers
+pub mod Passes
 pub mod Greatest
-pub mod Legal
+pub mod Reasons
+pub mod Answers
 pub mod Loops

@@ -1,5 +1,6 @@
 -- The laws of this crate, for its own proofs and for the crates above.
 pub mod Answers
+pub mod Legal
 pub mod Codec
 pub mod Loops
 pub mod StepBits

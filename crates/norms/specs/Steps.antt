@@ -3,7 +3,7 @@
 -- Assumes nothing.
 use mathlib.Core.Bool.{Bool, true, false, _&&_}
 use mathlib.Core.List.{List, [], _∷_}
-use Prim.Native.Nat.{ℕ, _+_, _-_, _≤_}
+use Prim.Native.Nat.{ℕ, _+_, _-_}
 use lib.Dec.{leb}
 use lib.ListN.{getD, drop}
 use Rattle.bits.specs.Codecs.{Verdict, fine, bad}
@@ -24,11 +24,6 @@ guarded false t y c = bad Outside
 unfoldable pub indices : ℕ → List ℕ → Verdict (List ℕ)
 indices x [] = fine []
 indices x (w ∷ ws) = guarded (leb 15 (x + w)) (leb (x + w) 54) (x + w - 15) (indices (x + w - 15) ws)
-
--- every index is 0 to 39, and every step from the one before is −15 to 16; from 15 on: the first is at most 31
-abbrev pub Near : ℕ → List ℕ → Type 0
-Near x [] = Unit {0}
-Near x (y ∷ ys) = (y ≤ 39) × (x ≤ y + 15) × (y ≤ x + 16) × Near y ys
 
 -- the test of the steps alone
 unfoldable pub close : ℕ → List ℕ → Bool

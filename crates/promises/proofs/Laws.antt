@@ -14,4 +14,6 @@ pub mod Channels
 pub mod NormWords
 pub mod SharingExamples
 pub mod Rounds
+pub mod LeastChange
+pub mod LoudPeaks
 pub mod Stars

@@ -7,4 +7,6 @@ pub mod Recordings
 pub mod Channels
 pub mod NormWords
 pub mod Rounds
+pub mod LeastChange
+pub mod LoudPeaks
 pub mod Stars

@@ -33,7 +33,8 @@ pub fn choose_flag_n(transient: bool, norms: &[u8; BANDS]) -> Result<bool, Refus
     Ok(choice.flag != 0)
 }
 
-/// The greatest norms, nowhere above the given ones, that a frame of this kind can carry.
+/// The greatest norms, nowhere above the given ones, that a frame of this kind can carry: none is
+/// raised, none lowered more than it must be, and norms that can be carried come back as they are.
 ///
 /// Refused: [`OutOfRange`](Refusal::OutOfRange) for a norm over 39.
 ///

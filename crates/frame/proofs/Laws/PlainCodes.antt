@@ -34,10 +34,11 @@ use Rattle.prefix.specs.Sizes.{lengthBytes}
 use Rattle.prefix.specs.Prefix.{prefixOf}
 use Rattle.prefix.specs.declared.Prefix.{Prefix}
 use Rattle.prefix.specs.declared.Prefix.the-variants.{Data, NoData, NoByte, Marked, Reserved}
-use Rattle.norms.specs.Part.{Writable, normBits, normPart}
+use Rattle.norms.specs.Legal.{LegalNorms}
+use Rattle.norms.specs.Part.{normBits, normPart}
 use Rattle.norms.proofs.Laws.Codec.{norms-there}
 use Rattle.norms.proofs.Laws.Part.{norm-bits}
-use Rattle.norms.proofs.Laws.Answers.{writable-range}
+use Rattle.norms.proofs.Laws.Legal.{legal-range}
 use Rattle.norms.proofs.Laws.NeverRefused.{norms-alone}
 use Rattle.kinds.specs.Kinds.{kinds}
 use Rattle.frame.specs.Layout.{Frame, isTransient, flagL, flagN, flagC, budgetOf, kindsOf, codeBits, tailLeft, codesPart, endingPart}
@@ -49,9 +50,9 @@ use Rattle.frame.proofs.Laws.Layout.{codes-lawful}
 use Rattle.frame.proofs.Laws.Reads.{read-codes-short, read-tail-short, read-started, data-cut, data-whole, length-body, field-sized}
 use Rattle.frame.specs.Answers.{refused, outcome, readBody, bodyOf, started, readAnswer}
 
--- ---- the codes of writable norms, under any flags with FlagC 0
+-- ---- the codes of legal norms, under any flags with FlagC 0
 
-module _ (total : ℕ) (flags : List Bool) (norms : List ℕ) (c : flagC flags ≡ false) (w : Writable (isTransient flags) norms)
+module _ (total : ℕ) (flags : List Bool) (norms : List ℕ) (c : flagC flags ≡ false) (w : LegalNorms (isTransient flags) norms)
     (most : budgetOf total flags norms ≤ 2560) where
   abbrev t : Bool
   t = isTransient flags
@@ -69,7 +70,7 @@ module _ (total : ℕ) (flags : List Bool) (norms : List ℕ) (c : flagC flags �
   ks = kindsOf total flags norms
 
   fair : Fair lengthOf (nthZ (scoresOf t norms)) (competing wide) budget (nth rates) (sharesOf t wide norms budget .left)
-  fair = demand3 t wide norms budget (writable-range t norms w) most .1
+  fair = demand3 t wide norms budget (legal-range t norms w) most .1
 
   plain-kinds : kindsOf total flags norms ≡ kinds false rates
   unfolding kindsOf kindsAt

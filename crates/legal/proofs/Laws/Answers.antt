@@ -1,9 +1,9 @@
--- Legal norms can be written, and norms that can be written stay; the answer by its test.
+-- The answer by its test, and the passes as the code makes them.
 -- Assumes nothing.
-use mathlib.Core.Path.{_≡_, ap, _∙_, subst⁻¹}
+use mathlib.Core.Path.{_≡_, ap, _∙_}
 use mathlib.Core.Bool.{Bool, true, false}
 use mathlib.Core.List.{List}
-use Prim.Native.Nat.{ℕ, _≤_, min}
+use Prim.Native.Nat.{ℕ, _≤_}
 use lib.ListN.{length, getD, set, replicate}
 use native.Mathlib.Omega.{arith}
 use Rattle.ground.proofs.Laws.ListsByRule.{everywhere}
@@ -11,39 +11,17 @@ use Rattle.ground.specs.Indices.{inRange}
 use Rattle.ground.proofs.Laws.Indices.{range-at}
 use Rattle.ground.specs.Replies.{done, outOfRange}
 use Rattle.order.specs.SentOrder.{sent, banded}
-use Rattle.order.proofs.Laws.SentOrder.{length-sent, length-banded, sent-banded, banded-sent, sent-each}
-use Rattle.norms.specs.Steps.{Near}
-use Rattle.legal.specs.Legal.{legalOf, legalSent, capped, lowered, held}
-use Rattle.legal.proofs.Laws.Legal.{capped-le, length-capped, legal-near, legal-same, length-legal}
-use Rattle.norms.specs.Part.{Writable}
+use Rattle.order.proofs.Laws.SentOrder.{length-sent, sent-each}
+use Rattle.legal.specs.Legal.{asFirst, legalOf, legalSent, capped, lowered, held}
+use Rattle.legal.proofs.Laws.Passes.{capped-le, length-capped}
 use Rattle.legal.specs.Answers.{legalised}
-
--- the legaliser's result is always writable
-pub legal-writable : (transient : Bool) (norms : List ℕ) → length norms ≡ 44 → inRange norms 44 ≡ true → Writable transient (legalOf transient norms)
-unfolding legalOf
-legal-writable transient norms l e =
-    let ss = sent transient norms in
-    let ls = length-sent transient norms l in
-    let c = legalSent ss in
-    record {
-      long = length-banded transient c (length-legal ss);
-      near =
-          subst⁻¹ (Near 15) (sent-banded transient c (length-legal ss))
-          (legal-near ss ls (sent-each transient norms (λ (x : ℕ). x ≤ 39) (range-at norms 44 e)));
-    }
-
--- and legal norms stay as they are
-pub legal-stays : (transient : Bool) (norms : List ℕ) → Writable transient norms → legalOf transient norms ≡ norms
-unfolding legalOf
-legal-stays transient norms w =
-    ap (banded transient) (legal-same (sent transient norms) (length-sent transient norms (w .long)) (w .near)) ∙ banded-sent transient norms (w .long)
 
 module _ (transient : Bool) (norms : List ℕ) where
   pub legal-no : inRange norms 44 ≡ false → record { reply = outOfRange; norms = replicate 44 0 } ≡ legalised transient norms
   unfolding legalised
   legal-no e = rw e
 
-  legal-yes : (ns : List ℕ) → inRange norms 44 ≡ true → ns ≡ legalOf transient norms → record { reply = done; norms = ns } ≡ legalised transient norms
+  pub legal-yes : (ns : List ℕ) → inRange norms 44 ≡ true → ns ≡ legalOf transient norms → record { reply = done; norms = ns } ≡ legalised transient norms
   unfolding legalised
   legal-yes ns e q = rw (e, q)
 
@@ -54,13 +32,13 @@ ready transient norms l e cs q =
     let ls = length-sent transient norms l in
     everywhere cs 44 39 (ap length q ∙ length-capped (sent transient norms) ∙ ls)
     (λ k b.
-    let u = capped-le (sent transient norms) k (omega arith) in
+    let u = capped-le (sent transient norms) (omega arith) k b in
     let v = sent-each transient norms (λ (x : ℕ). x ≤ 39) (range-at norms 44 e) k b in
     omega (arith, ap (λ (z : List ℕ). getD z k 0) q))
 
 -- ---- the passes as the code makes them
 
-pub cap-made : (ss : List ℕ) (v : ℕ) → v ≡ min (getD ss 0 0) 31 → set ss 0 v ≡ capped ss
+pub cap-made : (ss : List ℕ) (v : ℕ) → v ≡ asFirst (getD ss 0 0) → set ss 0 v ≡ capped ss
 unfolding capped
 cap-made ss v e = ap (set ss 0) e
 

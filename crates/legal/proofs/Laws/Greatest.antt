@@ -1,179 +1,152 @@
--- What legalising gives, told without its passes: of all writable norms nowhere above the given ones, the greatest. So the passes may be
--- exchanged.
+-- What legalising gives, told without its passes: of all legal norms nowhere above the given ones, the greatest. So there is no other, legal norms stay, and
+-- the passes may be exchanged.
 -- Assumes nothing.
-use mathlib.Core.Path.{_≡_, sym, ap}
+use mathlib.Core.Path.{_≡_, refl, sym, ap, _∙_, subst, subst⁻¹}
 use mathlib.Core.Bool.{Bool, true, false}
-use mathlib.Core.List.{List, _∷_}
-use Prim.Native.Nat.{ℕ, zero, suc, _+_, _-_, _≤_, _<_, min}
+use mathlib.Core.List.{List}
+use Prim.Native.Nat.{ℕ, suc, _+_, _≤_, _<_}
 use native.Mathlib.Omega.{arith}
-use lib.ListN.{length, getD}
-use lib.Seq.{getD-set-same, getD-set-other}
-use Rattle.ground.proofs.Laws.ListsByRule.{getD-table, length-from, filled}
+use native.Mathlib.Decide.{ℕ-discrete}
+use lib.ListN.{length, getD, set}
+use lib.Seq.{ext-getD, getD-set-same, getD-set-other}
+use Rattle.ground.proofs.Laws.ListsByRule.{getD-table}
 use Rattle.order.specs.SentOrder.{order, places, pick, sent, banded}
-use Rattle.order.proofs.Laws.SentOrder.{place-band, band-place, banded-sent, length-sent}
-use Rattle.norms.specs.Steps.{Near}
-use Rattle.legal.specs.Legal.{capped, fallen, risen, lowered, held, legalSent, legalOf}
-use Rattle.legal.proofs.Laws.Legal.{Step, near-of, near-at, capped-le, capped-first, fallen-le, fallen-step, risen-le, risen-first, risen-step}
-use Rattle.legal.proofs.Laws.Legal.{legal-near, length-legal}
-use Rattle.norms.specs.Part.{Writable}
+use Rattle.order.proofs.Laws.SentOrder.{place-band, band-place, banded-sent, sent-banded, length-sent, length-banded, sent-each}
+use Rattle.norms.specs.Legal.{LegalIndices, LegalNorms}
+use Rattle.legal.specs.Legal.{capped, lowered, held, legalSent, legalOf, NowhereAbove}
+use Rattle.legal.proofs.Laws.Passes.{capped-first, capped-le, lowered-step, lowered-le, length-lowered, held-first, held-step, held-le, length-held}
+use Rattle.legal.proofs.Laws.Passes.{under-capped, under-lowered, under-held}
 
--- nowhere above
-abbrev pub Under : List ℕ → List ℕ → Type 0
-Under xs ys = (i : ℕ) → i < 44 → getD xs i 0 ≤ getD ys i 0
+-- two lists of 44 of which none is anywhere above the other
+pub same : (xs ys : List ℕ) → length xs ≡ 44 → length ys ≡ 44 → NowhereAbove xs ys → NowhereAbove ys xs → xs ≡ ys
+same xs ys lx ly u v = ext-getD 0 xs ys (lx ∙ sym ly) (λ k b. omega (arith, u k (omega arith), v k (omega arith)))
 
-sent-under : (transient : Bool) (xs ys : List ℕ) → Under xs ys → Under (sent transient xs) (sent transient ys)
+-- ---- in sent order
+
+module _ (ss : List ℕ) (long : length ss ≡ 44) where
+  pub sent-under : NowhereAbove (legalSent ss) ss
+  unfolding legalSent
+  sent-under i h = omega (arith, held-le (lowered (capped ss)) i h, lowered-le (capped ss) i h, capped-le ss (omega arith) i h)
+
+  pub sent-greatest : (ts : List ℕ) → LegalIndices ts → NowhereAbove ts ss → NowhereAbove ts (legalSent ss)
+  unfolding legalSent
+  sent-greatest ts w u =
+      let first = under-capped ss ts u (omega arith) (w .first) in
+      let down = under-lowered (capped ss) ts first (w .down) in
+      under-held (lowered (capped ss)) ts down (w .up)
+
+  pub length-legal : length (legalSent ss) ≡ 44
+  unfolding legalSent
+  length-legal = length-held (lowered (capped ss))
+
+  module _ (small : (i : ℕ) → i < 44 → getD ss i 0 ≤ 39) where
+    pub sent-legal : LegalIndices (legalSent ss)
+    unfolding legalSent
+    sent-legal =
+        let c = capped ss in
+        let b = lowered c in
+        record {
+          range = λ i h. omega (arith, sent-under i h, small i h);
+          first = omega (arith, held-first b, lowered-le c 0 (omega arith), capped-first ss (omega arith));
+          down = λ i h. omega (arith, held-le b i (omega arith), lowered-step c i h, held-step b i h);
+          up = λ i h. omega (arith, held-step b i h);
+        }
+
+    -- first to last and then last pair to first gives the same
+    pub legal-exchanged : lowered (held (capped ss)) ≡ legalSent ss
+    legal-exchanged =
+        same (lowered h) (legalSent ss) (length-lowered h) length-legal
+        (sent-greatest (lowered h) exchanged-legal exchanged-under)
+        (under-lowered h (legalSent ss)
+        (under-held (capped ss) (legalSent ss) (under-capped ss (legalSent ss) sent-under (omega arith) (sent-legal .first)) (sent-legal .up))
+        (sent-legal .down))
+      where
+        h : List ℕ
+        h = held (capped ss)
+
+        exchanged-under : NowhereAbove (lowered h) ss
+        exchanged-under i l = omega (arith, lowered-le h i l, held-le (capped ss) i l, capped-le ss (omega arith) i l)
+
+        exchanged-legal : LegalIndices (lowered h)
+        exchanged-legal =
+            record {
+              range = λ i l. omega (arith, exchanged-under i l, small i l);
+              first = omega (arith, lowered-le h 0 (omega arith), held-first (capped ss), capped-first ss (omega arith));
+              down = λ i l. omega (arith, lowered-step h i l);
+              up = λ i l. omega (arith, lowered-le h (suc i) (omega arith), lowered-step h i l, held-step (capped ss) i l);
+            }
+
+-- ---- in band order
+
+in-sent-order : (transient : Bool) (xs ys : List ℕ) → NowhereAbove xs ys → NowhereAbove (sent transient xs) (sent transient ys)
 unfolding sent
-sent-under false xs ys u i h = u i h
-sent-under true xs ys u i h =
+in-sent-order false xs ys u i h = u i h
+in-sent-order true xs ys u i h =
     omega (arith, getD-table (pick order xs) 44 0 i h, getD-table (pick order ys) 44 0 i h, u (getD order i 0) (band-place i h .inside))
 
-banded-under : (transient : Bool) (xs ys : List ℕ) → Under xs ys → Under (banded transient xs) (banded transient ys)
+in-band-order : (transient : Bool) (xs ys : List ℕ) → NowhereAbove xs ys → NowhereAbove (banded transient xs) (banded transient ys)
 unfolding banded
-banded-under false xs ys u i h = u i h
-banded-under true xs ys u i h =
+in-band-order false xs ys u i h = u i h
+in-band-order true xs ys u i h =
     omega (arith, getD-table (pick places xs) 44 0 i h, getD-table (pick places ys) 44 0 i h, u (getD places i 0) (place-band i h .inside))
 
--- a list under another stays under it in each pass
-module _ (ss ts : List ℕ) (u : Under ts ss) where
-  under-fallen : ((i : ℕ) → i < 43 → getD ts i 0 ≤ getD ts (suc i) 0 + 15) → (k : ℕ) → k < 44 → getD ts (43 - k) 0 ≤ fallen ss k
-  unfolding fallen
-  under-fallen d zero h = u 43 (omega arith)
-  under-fallen d (suc k) h =
-      let e : suc (43 - suc k) ≡ 43 - k = omega arith in
-      omega
-      (arith, u (43 - suc k) (omega arith), d (43 - suc k) (omega arith), ap (λ (j : ℕ). getD ts j 0) e, under-fallen d k (omega arith))
+module _ (transient : Bool) (norms : List ℕ) (long : length norms ≡ 44) where
+  -- the result as it is sent
+  pub legal-as-sent : sent transient (legalOf transient norms) ≡ legalSent (sent transient norms)
+  unfolding legalOf
+  legal-as-sent = sent-banded transient (legalSent (sent transient norms)) (length-legal (sent transient norms) (length-sent transient norms long))
 
-  under-risen : ((i : ℕ) → i < 43 → getD ts (suc i) 0 ≤ getD ts i 0 + 16) → (i : ℕ) → i < 44 → getD ts i 0 ≤ risen ss i
-  unfolding risen
-  under-risen d zero h = u 0 (omega arith)
-  under-risen d (suc i) h = omega (arith, u (suc i) h, d i (omega arith), under-risen d i (omega arith))
+  pub legal-under : NowhereAbove (legalOf transient norms) norms
+  unfolding legalOf
+  legal-under =
+      subst (NowhereAbove (legalOf transient norms)) (banded-sent transient norms long)
+      (in-band-order transient (legalSent (sent transient norms)) (sent transient norms) (sent-under (sent transient norms) (length-sent transient norms long)))
 
-module _ (ss ts : List ℕ) (long : length ss ≡ 44) (tl : length ts ≡ 44) (near : Near 15 ts) (u : Under ts ss) where
-  at : (i : ℕ) → i < 44 → Step (getD (15 ∷ ts) i 0) (getD ts i 0)
-  at i h = near-at 15 ts near i (omega arith)
+  pub legal-greatest : (others : List ℕ) → LegalNorms transient others → NowhereAbove others norms → NowhereAbove others (legalOf transient norms)
+  unfolding legalOf
+  legal-greatest others w u =
+      let ss = sent transient norms in
+      let ts = sent transient others in
+      subst (λ (x : List ℕ). NowhereAbove x (legalOf transient norms)) (banded-sent transient others (w .long))
+      (in-band-order transient ts (legalSent ss)
+      (sent-greatest ss (length-sent transient norms long) ts (w .as-sent) (in-sent-order transient others norms u)))
 
-  under-capped : Under ts (capped ss)
-  unfolding capped
-  under-capped zero h =
-      omega (arith, getD-set-same ss 0 (min (getD ss 0 0) 31) 0 (omega arith), u 0 h, at 0 h .up)
-  under-capped (suc i) h =
-      omega (arith, getD-set-other ss 0 (suc i) (min (getD ss 0 0) 31) 0 (λ e. omega arith), u (suc i) h)
+  length-legal-of : length (legalOf transient norms) ≡ 44
+  unfolding legalOf
+  length-legal-of = length-banded transient (legalSent (sent transient norms)) (length-legal (sent transient norms) (length-sent transient norms long))
 
-  under-lowered : Under ts (lowered (capped ss))
-  under-lowered i h =
-      let e : 43 - (43 - i) ≡ i = omega arith in
-      omega (
-        arith,
-        getD-table (λ (i : ℕ). fallen (capped ss) (43 - i)) 44 0 i h,
-        ap (λ (j : ℕ). getD ts j 0) e,
-        under-fallen (capped ss) ts under-capped (λ j l. at (suc j) (omega arith) .down) (43 - i) (omega arith),
-      )
+  -- legal norms stay as they are
+  pub legal-stays : LegalNorms transient norms → legalOf transient norms ≡ norms
+  legal-stays w = same (legalOf transient norms) norms length-legal-of long legal-under (legal-greatest norms w (λ i h. omega arith))
 
-  under-legal : Under ts (legalSent ss)
-  unfolding legalSent
-  under-legal i h =
-      omega (
-        arith,
-        getD-table (risen (lowered (capped ss))) 44 0 i h,
-        under-risen (lowered (capped ss)) ts under-lowered (λ j l. at (suc j) (omega arith) .up) i h,
-      )
+  module _ (small : (band : ℕ) → band < 44 → getD norms band 0 ≤ 39) where
+    pub legal-legal : LegalNorms transient (legalOf transient norms)
+    legal-legal =
+        record {
+          long = length-legal-of;
+          as-sent =
+              subst⁻¹ LegalIndices legal-as-sent
+              (sent-legal (sent transient norms) (length-sent transient norms long) (sent-each transient norms (λ (x : ℕ). x ≤ 39) small));
+        }
 
--- the legal norms are nowhere above the given ones
-legal-le : (ss : List ℕ) → length ss ≡ 44 → Under (legalSent ss) (capped ss)
-unfolding legalSent
-legal-le ss l i h =
-    let b = lowered (capped ss) in
-    omega
-    (arith, getD-table (risen b) 44 0 i h, risen-le b i, getD-table (λ (i : ℕ). fallen (capped ss) (43 - i)) 44 0 i h, fallen-le (capped ss) i h)
+    -- an index that was lowered cannot be one higher, the others as they are
+    pub legal-none-higher : (band : ℕ) → band < 44 → getD (legalOf transient norms) band 0 < getD norms band 0
+        → LegalNorms transient (set (legalOf transient norms) band (getD (legalOf transient norms) band 0 + 1)) → ⊥
+    legal-none-higher band h fell w =
+        let r = legalOf transient norms in
+        let v = getD r band 0 + 1 in
+        let there = getD-set-same r band v 0 (omega (arith, length-legal-of)) in
+        let under : NowhereAbove (set r band v) norms =
+        λ i l.
+        elim (ℕ-discrete i band) [
+          | yes e ↦ rw e (omega (arith, there))
+          | no e ↦ omega (arith, getD-set-other r band i v 0 e, legal-under i l)
+        ] in
+        omega (arith, there, legal-greatest (set r band v) w under band h)
 
--- writable norms nowhere above the given ones are nowhere above the legal ones
-pub legal-greatest : (transient : Bool) (norms others : List ℕ) → length norms ≡ 44 → Writable transient others → Under others norms
-    → Under others (legalOf transient norms)
-unfolding legalOf
-legal-greatest transient norms others l w u i h =
-    let s = sent transient norms in
-    let o = sent transient others in
-    let v = under-legal s o (length-sent transient norms l) (length-sent transient others (w .long)) (w .near) (sent-under transient others norms u) in
-    omega (arith, ap (λ (x : List ℕ). getD x i 0) (banded-sent transient others (w .long)), banded-under transient o (legalSent s) v i h)
-
-pub legal-under : (transient : Bool) (norms : List ℕ) → length norms ≡ 44 → Under (legalOf transient norms) norms
-unfolding legalOf
-legal-under transient norms l i h =
-    let s = sent transient norms in
-    let ls = length-sent transient norms l in
-    let v = banded-under transient (legalSent s) s (λ j k. omega (arith, legal-le s ls j k, capped-le s j (omega arith))) i h in
-    omega (arith, ap (λ (x : List ℕ). getD x i 0) (banded-sent transient norms l))
-
--- ---- the two passes exchanged
-
-module _ (ss : List ℕ) (long : length ss ≡ 44) (small : (i : ℕ) → i < 44 → getD ss i 0 ≤ 39) where
-  -- after the pass from the first to the last, and then after the pass from the last pair to the first
-  h : List ℕ
-  h = held (capped ss)
-
-  e : List ℕ
-  e = lowered h
-
-  h-at : (i : ℕ) → i < 44 → getD h i 0 ≡ risen (capped ss) i
-  unfolding h
-  h-at i k = getD-table (risen (capped ss)) 44 0 i k
-
-  e-at : (i : ℕ) → i < 44 → getD e i 0 ≡ fallen h (43 - i)
-  unfolding e
-  e-at i k = getD-table (λ (i : ℕ). fallen h (43 - i)) 44 0 i k
-
-  e-long : length e ≡ 44
-  unfolding e
-  e-long = length-from (λ (i : ℕ). fallen h (43 - i)) 44 0
-
-  e-le : (i : ℕ) → i < 44 → getD e i 0 ≤ getD h i 0
-  e-le i k = omega (arith, e-at i k, fallen-le h i k)
-
-  e-under : Under e ss
-  e-under i k = omega (arith, e-le i k, h-at i k, risen-le (capped ss) i, capped-le ss i (omega arith))
-
-  e-step : (i : ℕ) → i < 44 → Step (getD (15 ∷ e) i 0) (getD e i 0)
-  e-step zero k =
-      record {
-        small = omega (arith, e-under 0 k, small 0 k);
-        down = omega arith;
-        up = omega (arith, e-le 0 k, h-at 0 k, risen-first (capped ss), capped-first ss (omega arith));
-      }
-  e-step (suc i) k =
-      let k′ : i < 44 = omega arith in
-      let d = fallen-step h i (omega arith) in
-      let a = e-at i k′ in
-      let b = e-at (suc i) k in
-      record {
-        small = omega (arith, e-under (suc i) k, small (suc i) k);
-        down = omega arith;
-        up = omega (arith, e-le (suc i) k, h-at (suc i) k, h-at i k′, risen-step (capped ss) i);
-      }
-
-  e-near : Near 15 e
-  e-near = near-of 15 e (λ i k. e-step i (omega (arith, e-long)))
-
-  legal-at : (i : ℕ) → i < 44 → Step (getD (15 ∷ legalSent ss) i 0) (getD (legalSent ss) i 0)
-  legal-at i k = near-at 15 (legalSent ss) (legal-near ss long small) i (omega (arith, length-legal ss))
-
-  legal-h : Under (legalSent ss) h
-  legal-h i k =
-      omega (arith, h-at i k, under-risen (capped ss) (legalSent ss) (legal-le ss long) (λ j l. legal-at (suc j) (omega arith) .up) i k)
-
-  legal-e : Under (legalSent ss) e
-  legal-e i k =
-      let q : 43 - (43 - i) ≡ i = omega arith in
-      omega (
-        arith,
-        e-at i k,
-        ap (λ (j : ℕ). getD (legalSent ss) j 0) q,
-        under-fallen h (legalSent ss) legal-h (λ j l. legal-at (suc j) (omega arith) .down) (43 - i) (omega arith),
-      )
-
-  -- first to last and then last to first gives the same
-  pub legal-exchanged : lowered (held (capped ss)) ≡ legalSent ss
-  unfolding e h
-  legal-exchanged =
-      sym
-      (filled (λ (i : ℕ). fallen h (43 - i)) 44 0 (legalSent ss) (length-legal ss)
-      (λ i k. omega (arith, e-at i k, legal-e i k, under-legal ss e long e-long e-near e-under i k)))
+    -- no other norms are legal, nowhere above the given ones, and such that no others that are so are above them
+    pub legal-only : (others : List ℕ) → LegalNorms transient others → NowhereAbove others norms
+        → ((lower : List ℕ) → LegalNorms transient lower → NowhereAbove lower norms → NowhereAbove lower others)
+        → others ≡ legalOf transient norms
+    legal-only others w u g =
+        same others (legalOf transient norms) (w .long) length-legal-of (legal-greatest others w u) (g (legalOf transient norms) legal-legal legal-under)

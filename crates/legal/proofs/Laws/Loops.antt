@@ -2,31 +2,30 @@
 -- Assumes nothing.
 use mathlib.Core.Path.{_≡_, refl, sym, ap, _∙_, subst⁻¹}
 use mathlib.Core.List.{List, [], _∷_}
-use Prim.Native.Nat.{ℕ, suc, _+_, _-_, _≤_, _<_, min}
+use Prim.Native.Nat.{ℕ, suc, _+_, _-_, _≤_, _<_}
 use native.Mathlib.Omega.{arith}
 use native.Mathlib.Numerals.{add-one}
 use lib.ListN.{length, getD, set, replicate, length-set}
-use Rattle.ground.proofs.Laws.ListsByRule.{everywhere, fill, fill-down}
-use Rattle.ground.proofs.Laws.ListsByRule.{length-from, getD-table, filled}
-use Rattle.legal.specs.Legal.{fallen, risen, lowered, held}
-use Rattle.legal.proofs.Laws.Legal.{fallen-le}
+use Rattle.ground.proofs.Laws.ListsByRule.{everywhere, fill, fill-down, filled}
+use Rattle.legal.specs.Legal.{bySuccessor, byPredecessor, fallen, risen, lowered, held}
+use Rattle.legal.proofs.Laws.Passes.{lowered-le, length-lowered}
 
 -- ---- the two passes of the legaliser
 
 -- the next place below i
-fallen-next : (ss : List ℕ) (i last r : ℕ) → 0 < i → i ≤ 43 → last ≡ fallen ss (43 - i) → r ≡ min (getD ss (i - 1) 0) (last + 15)
+fallen-next : (ss : List ℕ) (i last r : ℕ) → 0 < i → i ≤ 43 → last ≡ fallen ss (43 - i) → r ≡ bySuccessor (getD ss (i - 1) 0) last
     → r ≡ fallen ss (43 - (i - 1))
 unfolding fallen
 fallen-next ss i last r p h e q =
     let a : 43 - (i - 1) ≡ suc (43 - i) = omega arith in
     let b : 43 - suc (43 - i) ≡ i - 1 = omega arith in
-    q ∙ ap (λ (k : ℕ). min (getD ss (i - 1) 0) (k + 15)) e ∙ ap (λ (k : ℕ). min (getD ss k 0) (fallen ss (43 - i) + 15)) (sym b) ∙ ap (fallen ss) (sym a)
+    q ∙ ap (bySuccessor (getD ss (i - 1) 0)) e ∙ ap (λ (k : ℕ). bySuccessor (getD ss k 0) (fallen ss (43 - i))) (sym b) ∙ ap (fallen ss) (sym a)
 
 fallen-start : (ss : List ℕ) → getD ss 43 0 ≡ fallen ss (43 - 43)
 unfolding fallen
 fallen-start ss = refl
 
-risen-next : (ss : List ℕ) (i last r : ℕ) → last ≡ risen ss i → r ≡ min (getD ss (i + 1) 0) (last + 16) → r ≡ risen ss (i + 1)
+risen-next : (ss : List ℕ) (i last r : ℕ) → last ≡ risen ss i → r ≡ byPredecessor (getD ss (i + 1) 0) last → r ≡ risen ss (i + 1)
 unfolding risen
 risen-next ss i last r e q = rw (add-one i) (q ∙ simp (e, add-one i))
 
@@ -37,8 +36,7 @@ risen-start ss = refl
 -- no index rises
 lowered-small : (ss : List ℕ) → ((k : ℕ) → getD ss k 0 ≤ 39) → (k : ℕ) → getD (lowered ss) k 0 ≤ 39
 lowered-small ss h =
-    everywhere (lowered ss) 44 39 (length-from (λ (i : ℕ). fallen ss (43 - i)) 44 0)
-    (λ k b. omega (arith, getD-table (λ (i : ℕ). fallen ss (43 - i)) 44 0 k b, fallen-le ss k b, h k))
+    everywhere (lowered ss) 44 39 (length-lowered ss) (λ k b. omega (arith, lowered-le ss k b, h k))
 
 -- ---- last to first: the places from i on stand in out, the lowest of them is last
 
@@ -61,7 +59,7 @@ module _ {ss : List ℕ} (range : (k : ℕ) → getD ss k 0 ≤ 39) where
       }
 
   module _ {out : List ℕ} {last i : ℕ} (I : Lowering ss out last i) where
-    pub lower-turn : {v : ℕ} → 0 < i → v ≡ min (getD ss (i - 1) 0) (last + 15) → Lowering ss (set out (i - 1) v) v (i - 1)
+    pub lower-turn : {v : ℕ} → 0 < i → v ≡ bySuccessor (getD ss (i - 1) 0) last → Lowering ss (set out (i - 1) v) v (i - 1)
     lower-turn {v} h q =
         let e = fallen-next ss i last v h (I .upto) (I .said) q in
         record {
@@ -98,7 +96,7 @@ module _ {ss : List ℕ} (range : (k : ℕ) → getD ss k 0 ≤ 39) where
       }
 
   module _ {out : List ℕ} {last i : ℕ} (I : Holding ss out last i) where
-    pub hold-turn : {v : ℕ} → i < 43 → v ≡ min (getD ss (i + 1) 0) (last + 16) → Holding ss (set out (i + 1) v) v (i + 1)
+    pub hold-turn : {v : ℕ} → i < 43 → v ≡ byPredecessor (getD ss (i + 1) 0) last → Holding ss (set out (i + 1) v) v (i + 1)
     hold-turn {v} h q =
         let e = risen-next ss i last v (I .said) q in
         record {

@@ -14,8 +14,10 @@ use Rattle.words.specs.Tables.{coding}
 use Rattle.words.proofs.Laws.Tables.{coding-fixed, coding-column, all-good, size16}
 use Rattle.order.specs.SentOrder.{sent, banded}
 use Rattle.order.proofs.Laws.SentOrder.{sent-banded, banded-sent, length-banded, length-sent}
-use Rattle.norms.specs.Steps.{numbers, indices, Near}
-use Rattle.norms.specs.Part.{normKinds, Writable, inBands, normsOf, numbersOf, normBits, normPart}
+use Rattle.norms.specs.Legal.{LegalIndices, LegalNorms}
+use Rattle.norms.specs.Steps.{numbers, indices}
+use Rattle.norms.specs.Part.{normKinds, inBands, normsOf, numbersOf, normBits, normPart}
+use Rattle.norms.proofs.Laws.Legal.{near-legal, sent-near}
 use Rattle.norms.proofs.Laws.Steps.{Below, indices-sound, indices-whole, length-numbers}
 
 -- ---- the kinds of the 44 numbers take numbers under 32
@@ -64,48 +66,48 @@ module _ (transient flagN : Bool) where
   bands-fine (bad x) norms e = absurd (let z : _≡_ {A = ℕ} 0 1 = cc in omega arith)
 
   pub norms-sound : (ws norms : List ℕ) → words (map coding (normKinds flagN)) .Ok ws → normsOf transient ws ≡ fine norms
-      → (numbersOf transient norms ≡ ws) × Writable transient norms
+      → (numbersOf transient norms ≡ ws) × LegalNorms transient norms
   unfolding words
   norms-sound ws norms k e =
       let (ss, c, q) = bands-fine (indices 15 ws) norms e in
       let s = indices-sound 15 ws ss (fit-below flagN ws k) c in
       let l : length ss ≡ 44 =
       sym (length-numbers 15 ss) ∙ ap length (s .0) ∙ fit-length (map coding (normKinds flagN)) ws k ∙ length-map (normKinds flagN) coding ∙ kinds-long flagN in
-      subst (λ (z : List ℕ). (numbersOf transient z ≡ ws) × Writable transient z) q (
+      subst (λ (z : List ℕ). (numbersOf transient z ≡ ws) × LegalNorms transient z) q (
         ap (numbers 15) (sent-banded transient ss l) ∙ s .0,
-        record { long = length-banded transient ss l; near = subst (Near 15) (sym (sent-banded transient ss l)) (s .1) },
+        record { long = length-banded transient ss l; as-sent = subst LegalIndices (sym (sent-banded transient ss l)) (near-legal ss l (s .1)) },
       )
 
-  pub norms-whole : (norms : List ℕ) → Writable transient norms
+  pub norms-whole : (norms : List ℕ) → LegalNorms transient norms
       → (normsOf transient (numbersOf transient norms) ≡ fine norms) × words (map coding (normKinds flagN)) .Ok (numbersOf transient norms)
   unfolding words
   norms-whole norms w =
       let ss = sent transient norms in
-      let i = indices-whole 15 ss (w .near) in
+      let i = indices-whole 15 ss (sent-near transient norms w) in
       let l : length (numbers 15 ss) ≡ 44 = length-numbers 15 ss ∙ length-sent transient norms (w .long) in
       (ap (inBands transient) (i .0) ∙ ap fine (banded-sent transient norms (w .long)), below-fit flagN (numbers 15 ss) l (i .1))
 
-  pub ok-writable : (norms : List ℕ) → Writable transient norms → normPart transient flagN .Ok norms
+  pub ok-legal : (norms : List ℕ) → LegalNorms transient norms → normPart transient flagN .Ok norms
   unfolding normPart
-  ok-writable norms w = w
+  ok-legal norms w = w
 
-  pub writable-ok : (norms : List ℕ) → normPart transient flagN .Ok norms → Writable transient norms
+  pub legal-ok : (norms : List ℕ) → normPart transient flagN .Ok norms → LegalNorms transient norms
   unfolding normPart
-  writable-ok norms w = w
+  legal-ok norms w = w
 
   pub norms-lawful : Lawful 0 (normPart transient flagN)
   unfolding normPart
   norms-lawful = checked-lawful (words-lawful (map coding (normKinds flagN)) (all-good (normKinds flagN))) norms-sound norms-whole
 
   -- norms written are read back
-  pub norms-back : (norms : List ℕ) (r : List Bool) → Writable transient norms
+  pub norms-back : (norms : List ℕ) (r : List Bool) → LegalNorms transient norms
       → normPart transient flagN .read (normBits transient flagN norms ++ r) ≡ got norms r
   unfolding normPart normBits words
   norms-back norms r w = norms-lawful .back norms r w (omega arith)
 
   -- bits that were read are the bits written
   pub norms-there : (b : List Bool) (norms : List ℕ) (r : List Bool) → normPart transient flagN .read b ≡ got norms r
-      → (b ≡ normBits transient flagN norms ++ r) × Writable transient norms
+      → (b ≡ normBits transient flagN norms ++ r) × LegalNorms transient norms
   unfolding normPart normBits words
   norms-there b norms r e = norms-lawful .there b norms r e
 

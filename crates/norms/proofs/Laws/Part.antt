@@ -22,7 +22,8 @@ use Rattle.runs.proofs.Laws.Writes.{run-few}
 use Rattle.order.specs.SentOrder.{sent}
 use Rattle.order.proofs.Laws.SentOrder.{length-sent}
 use Rattle.norms.specs.Steps.{numbers}
-use Rattle.norms.specs.Part.{normKinds, Writable, numbersOf, normBits}
+use Rattle.norms.specs.Legal.{LegalNorms}
+use Rattle.norms.specs.Part.{normKinds, numbersOf, normBits}
 use Rattle.norms.specs.Answers.{wordTotal}
 use Rattle.norms.proofs.Laws.Steps.{length-numbers}
 use Rattle.norms.proofs.Laws.Codec.{kinds-long, norms-whole}
@@ -112,7 +113,7 @@ part-long false (w ∷ ws) f =
     (omega arith, omega arith)
 
 -- the norm part has 134 to 306 bits, and 220 with FlagN 0
-pub norm-bits : (transient flagN : Bool) (norms : List ℕ) → Writable transient norms
+pub norm-bits : (transient flagN : Bool) (norms : List ℕ) → LegalNorms transient norms
     → (134 ≤ length (normBits transient flagN norms)) × (length (normBits transient flagN norms) ≤ 306)
 unfolding normBits words
 norm-bits transient flagN norms w = part-long flagN (numbersOf transient norms) (norms-whole transient flagN norms w .1)

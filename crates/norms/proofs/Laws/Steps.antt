@@ -13,7 +13,12 @@ use Rattle.ground.proofs.Laws.Cases.{and-true}
 use Rattle.ground.specs.ListsByRule.{table}
 use Rattle.ground.proofs.Laws.ListsByRule.{filled}
 use Rattle.bits.specs.Codecs.{Verdict, fine, bad}
-use Rattle.norms.specs.Steps.{numbers, guarded, indices, Near, close, stepsClose}
+use Rattle.norms.specs.Steps.{numbers, guarded, indices, close, stepsClose}
+
+-- every index is at most 39, and every step from the one before is −15 to 16; from 15 on: the first is at most 31
+abbrev pub Near : ℕ → List ℕ → Type 0
+Near x [] = Unit {0}
+Near x (y ∷ ys) = (y ≤ 39) × (x ≤ y + 15) × (y ≤ x + 16) × Near y ys
 
 -- ---- there and back
 
@@ -83,11 +88,6 @@ pub close-near : (x : ℕ) (ys : List ℕ) → Near x ys → close x ys ≡ true
 unfolding close
 close-near x [] n = refl
 close-near x (y ∷ ys) n = rw (le-leb x (y + 15) (n .1), le-leb y (x + 16) (n .2)) (close-near y ys (n .3))
-
-pub near-range : (x : ℕ) (ys : List ℕ) → Near x ys → (i : ℕ) → i < length ys → getD ys i 0 ≤ 39
-near-range x [] n i h = absurd (omega arith)
-near-range x (y ∷ ys) n zero h = n .0
-near-range x (y ∷ ys) n (suc i) h = near-range y ys (n .3) i (le-of-suc-le-suc h)
 
 -- a list whose indices are in range, whose first is at most 31 and whose steps are close
 pub near-first : (ss : List ℕ) → 0 < length ss → ((i : ℕ) → i < length ss → getD ss i 0 ≤ 39) → getD ss 0 0 ≤ 31

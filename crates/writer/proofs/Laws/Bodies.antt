@@ -22,11 +22,12 @@ use Rattle.prefix.specs.Prefix.{byteWith, byteOf}
 use Rattle.prefix.proofs.Laws.Prefix.{byte-mode}
 use Rattle.prefix.specs.declared.Byte.{Byte}
 use Rattle.prefix.specs.declared.Byte.the-variants as Byte
-use Rattle.norms.specs.Part.{normBits, Writable}
-use Rattle.norms.proofs.Laws.Codec.{write-is, ok-writable}
+use Rattle.norms.specs.Legal.{LegalNorms}
+use Rattle.norms.specs.Part.{normBits}
+use Rattle.norms.proofs.Laws.Codec.{write-is, ok-legal}
 use Rattle.norms.proofs.Laws.Part.{norm-bits}
 use Rattle.norms.specs.Answers.{normCauses}
-use Rattle.norms.proofs.Laws.Answers.{writable-reply}
+use Rattle.norms.proofs.Laws.Answers.{legal-reply}
 use Rattle.kinds.specs.Budget.{noiseBits}
 use Rattle.kinds.proofs.Laws.Budget.{noise-le}
 use Rattle.frame.specs.Layout.{budgetOf, codeBits, tailLeft, codesPart, frame}
@@ -165,15 +166,15 @@ quiet-fit true z e = omega (arith, eqb-true z 0 e)
 quiet-fit false z e = omega (arith, ltb-true z 4 e)
 
 module _ (r : Record) (cs ts : List ℕ) (room : ℕ) (l : length (r .norms) ≡ 44) (P : Passed r cs ts room) where
-  writable : Writable (r .transient) (r .norms)
-  writable = writable-reply (r .transient) (r .norms) l (P .norms)
+  legal : LegalNorms (r .transient) (r .norms)
+  legal = legal-reply (r .transient) (r .norms) l (P .norms)
 
   pub meant : frame (total r) .Ok (frameOf r cs ts)
   unfolding frame codesPart words raw tailLeft codeBits
   meant = (
     refl,
     (
-      ok-writable (r .transient) (r .«flag_n») (r .norms) writable,
+      ok-legal (r .transient) (r .«flag_n») (r .norms) legal,
       (P .fit, (quiet-fit (r .transient) (r .noise) (P .rooms .quiet), length-view ts 0 (r .«tail_bits») ∙ P .count)),
     ),
   )
@@ -186,7 +187,7 @@ module _ (r : Record) (cs ts : List ℕ) (room : ℕ) (l : length (r .norms) ≡
         frame-bits (total r) (frameOf r cs ts) meant,
         P .paid,
         noise-le (r .transient),
-        norm-bits (r .transient) (r .«flag_n») (r .norms) writable .1,
+        norm-bits (r .transient) (r .«flag_n») (r .norms) legal .1,
         mode-bounds (r .mode) (omega (arith, P .rooms .mode)) .0,
       )
 

@@ -13,7 +13,7 @@ use Rattle.ground.specs.Refusals.{Cause, _gives_, first}
 use Rattle.ground.proofs.Laws.Refusals.{NoneHolds, numbers, by-rows, row-fails, first-number, behind-number}
 use Rattle.ground.specs.Replies.{pastBudget}
 use Rattle.norms.specs.Answers.{normCauses}
-use Rattle.norms.proofs.Laws.Answers.{writable-reply}
+use Rattle.norms.proofs.Laws.Answers.{legal-reply}
 use Rattle.kinds.proofs.Laws.Kinds.{length-kinds}
 use Rattle.frame.specs.Layout.{kindsOf}
 use Rattle.kinds.specs.Budget.{kindsAt}
@@ -37,7 +37,7 @@ codes-paid : (r : Record) (cs : List ℕ) → r .«flag_c» ≡ false → length
     → codesLong (kindsFor r) (take 800 cs) ≤ budgetFor r
 unfolding kindsOf kindsAt
 codes-paid r cs c l S =
-    let w = writable-reply (r .transient) (r .norms) l (S .norms) in
+    let w = legal-reply (r .transient) (r .norms) l (S .norms) in
     let b = budget-range (r .mode) (flagBits r) (r .norms) (omega (arith, S .mode)) w .1 in
     plain-bits (total r) (flagBits r) (r .norms) c w (omega arith) (take 800 cs) (length-take-le 800 cs (S .codes) ∙ sym (length-kinds (r .«flag_c») _))
 

@@ -25,10 +25,10 @@ use Rattle.prefix.specs.Prefix.{prefixOf, byteWith, zeroR}
 use Rattle.prefix.proofs.Laws.Prefix.{prefix-data, prefix-mode}
 use Rattle.prefix.specs.declared.Prefix.{Prefix}
 use Rattle.prefix.specs.declared.Prefix.the-variants.{Data, NoData, NoByte, Marked, Reserved}
-use Rattle.norms.specs.Part.{Writable}
-use Rattle.norms.proofs.Laws.Codec.{writable-ok}
+use Rattle.norms.specs.Legal.{LegalNorms}
+use Rattle.norms.proofs.Laws.Codec.{legal-ok}
 use Rattle.norms.proofs.Laws.Part.{norm-bits}
-use Rattle.norms.proofs.Laws.Answers.{reply-writable}
+use Rattle.norms.proofs.Laws.Answers.{reply-legal}
 use Rattle.kinds.proofs.Laws.Kinds.{length-kinds}
 use Rattle.frame.specs.Layout.{Frame, flagsIn, frame, budgetOf, kindsOf, codeBits, tailLeft, codesPart}
 use Rattle.frame.proofs.Laws.Layout.{frame-lawful, frame-whole, frame-bits}
@@ -171,9 +171,9 @@ module _ (mode : ℕ) (a b c d : Bool) (ns vs : List ℕ) (z : ℕ) (tb : List B
   unfolding x t
   ok = frame-lawful t .there (bitsOf (bodyOf (modeBytes mode) src)) x [] (S .body) .1
 
-  ok-norms : Writable a ns
+  ok-norms : LegalNorms a ns
   unfolding frame x t
-  ok-norms = writable-ok a c ns (ok .1 .0)
+  ok-norms = legal-ok a c ns (ok .1 .0)
 
   ok-codes : FitAll (map coding (kindsOf t f ns)) vs
   unfolding frame codesPart words f x t
@@ -239,7 +239,7 @@ module _ (mode : ℕ) (a b c d : Bool) (ns vs : List ℕ) (z : ℕ) (tb : List B
                 out = h;
                 quiet = fit-quiet a z ok-noise;
               };
-          norms = reply-writable a ns (ok-norms .long) ok-norms;
+          norms = reply-legal a ns (ok-norms .long) ok-norms;
           fit = subst (λ (l : List ℕ). FitAll (map coding (kindsFor r)) l) (sym codes-front) ok-codes;
           paid = subst (λ (l : List ℕ). codesLong (kindsFor r) l ≤ budgetFor r) (sym codes-front) paid;
           count = ok-tail ∙ ap (λ (l : List ℕ). budgetFor r - codesLong (kindsFor r) l) (sym codes-front);
