@@ -1,7 +1,7 @@
 -- Legalising (01, Norms; 7.4, steps 1–4), in sent order, and when norms are nowhere above others (02, No. 14).
 -- Assumes nothing.
 use mathlib.Core.Bool.{Bool}
-use mathlib.Core.List.{List, [], _∷_}
+use mathlib.Core.List.{List}
 use Prim.Native.Nat.{ℕ, zero, suc, _+_, _-_, _*_, _≤_, _<_, min}
 use lib.ListN.{getD, set}
 use Rattle.ground.specs.ListsByRule.{table}

@@ -16,6 +16,11 @@ use Rattle.norms.specs.Legal.{LegalNorms}
 use Rattle.legal.specs.Legal.{NowhereAbove, capped, allowed}
 use Rattle.promises.specs.Calls as call
 
+-- "any 44 indices of 0–39"
+pub record Indices (norms : List ℕ) : Type 0 where
+  pub long : length norms ≡ 44
+  pub range : (band : ℕ) → band < 44 → nth norms band ≤ 39
+
 module _ (transient : Bool) (norms : List ℕ) where
   abbrev pub result : List ℕ
   result = call.legalise transient norms .norms
@@ -28,22 +33,30 @@ module _ (transient : Bool) (norms : List ℕ) where
     pub none-raised : NowhereAbove result norms
     -- … and every legal sequence that is nowhere above the input is nowhere above the result"
     pub greatest : (others : List ℕ) → LegalNorms transient others → NowhereAbove others norms → NowhereAbove others result
-    -- these three say the whole result: no other sequence has them
-    pub no-other : (others : List ℕ) → LegalNorms transient others → NowhereAbove others norms
-        → ((more : List ℕ) → LegalNorms transient more → NowhereAbove more norms → NowhereAbove more others) → others ≡ result
-    -- an index that was lowered cannot be one higher, the others as they are
-    pub none-one-higher : (band : ℕ) → band < 44 → nth result band < nth norms band → LegalNorms transient (set result band (nth result band + 1)) → ⊥
+
+  pub record Consequences : Type 0 where
     -- a legal input comes back unchanged
     pub unchanged : LegalNorms transient norms → result ≡ norms
     -- legalising twice is legalising once
     pub twice : call.legalise transient result ≡ call.legalise transient norms
-    -- why an index is what it is. Place p of the input, the first taken as 31 where it is over, allows at place i at most 15 a place more where it is sent later,
-    -- and 16 where it is sent earlier (`allowed`): no place allows less than the result has there, and one allows no more
+    -- an index that was lowered could not stand one higher, the others as they are
+    pub none-one-higher : (band : ℕ) → band < 44 → nth result band < nth norms band → LegalNorms transient (set result band (nth result band + 1)) → ⊥
+    -- 02's three sentences say the whole result: no other sequence has them
+    pub no-other : (others : List ℕ) → LegalNorms transient others → NowhereAbove others norms
+        → ((more : List ℕ) → LegalNorms transient more → NowhereAbove more norms → NowhereAbove more others) → others ≡ result
+
+  -- Why an index is what it is, by places in sent order. Each place of the input, the first taken as 31 where it is over, allows at another place at most 15 a place
+  -- more than it has itself where it is sent later, and 16 where it is sent earlier (`allowed`)
+  pub record Reasons : Type 0 where
+    -- no place allows less than the result has, and one allows no more
     pub none-allows-less : (i p : ℕ) → i < 44 → p < 44 → nth (sent transient result) i ≤ allowed (capped (sent transient norms)) p i
     pub one-allows-no-more : (i : ℕ) → i < 44 → (p : ℕ) × (p < 44) × (nth (sent transient result) i ≡ allowed (capped (sent transient norms)) p i)
 
 pub record LegalNormsChangeLeast : Type 0 where
-  pub least : (transient : Bool) (norms : List ℕ) → length norms ≡ 44 → ((band : ℕ) → band < 44 → nth norms band ≤ 39) → LeastChange transient norms
-  -- legal is what can be sent: 0 from the FlagN choice says so
+  pub least : (transient : Bool) (norms : List ℕ) → Indices norms → LeastChange transient norms
+  pub consequences : (transient : Bool) (norms : List ℕ) → Indices norms → Consequences transient norms
+  pub reasons : (transient : Bool) (norms : List ℕ) → Indices norms → Reasons transient norms
+  -- legal is what can be sent: exactly then the FlagN choice answers 0
   pub legal-is-sendable : (transient : Bool) (norms : List ℕ) → length norms ≡ 44
-      → (LegalNorms transient norms → call.choose-flag-n transient norms .reply ≡ done) × (call.choose-flag-n transient norms .reply ≡ done → LegalNorms transient norms)
+      → (LegalNorms transient norms → call.choose-flag-n transient norms .reply ≡ done)
+      × (call.choose-flag-n transient norms .reply ≡ done → LegalNorms transient norms)

@@ -7,7 +7,7 @@ use g719_compare::cases::norms_case;
 use g719_reference::pieces::sent_order;
 use g719_reference::types::BANDS;
 
-const SEEDS: u64 = 8_000;
+const SEEDS: u64 = 20_000;
 
 /// What is sent: the first index at most 31, all at most 39, each difference
 /// −15 to 16.

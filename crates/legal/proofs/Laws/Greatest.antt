@@ -1,7 +1,7 @@
 -- What legalising gives, told without its passes: of all legal norms nowhere above the given ones, the greatest. So there is no other, legal norms stay, and
 -- the passes may be exchanged.
 -- Assumes nothing.
-use mathlib.Core.Path.{_≡_, refl, sym, ap, _∙_, subst, subst⁻¹}
+use mathlib.Core.Path.{_≡_, sym, _∙_, subst, subst⁻¹}
 use mathlib.Core.Bool.{Bool, true, false}
 use mathlib.Core.List.{List}
 use Prim.Native.Nat.{ℕ, suc, _+_, _≤_, _<_}

@@ -34,14 +34,14 @@ module _ (ss : List ℕ) (long : length ss ≡ 44) where
       let at : (i : ℕ) → i < 44 → Step (getD (15 ∷ ss) i 0) (getD ss i 0) = λ i h. near-at 15 ss n i (omega arith) in
       record {
         range = λ i h. at i h .small;
-        first = at 0 (omega arith) .up;
-        down = λ i h. at (suc i) (omega arith) .down;
-        up = λ i h. at (suc i) (omega arith) .up;
+        first = omega (arith, at 0 (omega arith) .up);
+        down = λ i h. omega (arith, at (suc i) (omega arith) .down);
+        up = λ i h. omega (arith, at (suc i) (omega arith) .up);
       }
 
   legal-step : LegalIndices ss → (i : ℕ) → i < 44 → Step (getD (15 ∷ ss) i 0) (getD ss i 0)
-  legal-step w zero h = record { small = w .range 0 h; down = omega arith; up = w .first }
-  legal-step w (suc i) h = record { small = w .range (suc i) h; down = w .down i (omega arith); up = w .up i (omega arith) }
+  legal-step w zero h = record { small = w .range 0 h; down = omega arith; up = omega (arith, w .first) }
+  legal-step w (suc i) h = record { small = w .range (suc i) h; down = omega (arith, w .down i (omega arith)); up = omega (arith, w .up i (omega arith)) }
 
   pub legal-near : LegalIndices ss → Near 15 ss
   legal-near w = near-of 15 ss (λ i h. legal-step w i (omega arith))
