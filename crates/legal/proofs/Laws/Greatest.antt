@@ -9,6 +9,7 @@ use native.Mathlib.Omega.{arith}
 use native.Mathlib.Decide.{ℕ-discrete}
 use lib.ListN.{length, getD, set}
 use lib.Seq.{ext-getD, getD-set-same, getD-set-other}
+use Rattle.ground.specs.ListsByRule.{table}
 use Rattle.ground.proofs.Laws.ListsByRule.{getD-table}
 use Rattle.order.specs.SentOrder.{order, places, pick, sent, banded}
 use Rattle.order.proofs.Laws.SentOrder.{place-band, band-place, banded-sent, sent-banded, length-sent, length-banded, sent-each}
@@ -78,17 +79,18 @@ module _ (ss : List ℕ) (long : length ss ≡ 44) where
 
 -- ---- in band order
 
+picked-under : (ks xs ys : List ℕ) → ((i : ℕ) → i < 44 → getD ks i 0 < 44) → NowhereAbove xs ys → NowhereAbove (table 44 (pick ks xs)) (table 44 (pick ks ys))
+picked-under ks xs ys inside u i h = omega (arith, getD-table (pick ks xs) 44 0 i h, getD-table (pick ks ys) 44 0 i h, u (getD ks i 0) (inside i h))
+
 in-sent-order : (transient : Bool) (xs ys : List ℕ) → NowhereAbove xs ys → NowhereAbove (sent transient xs) (sent transient ys)
 unfolding sent
-in-sent-order false xs ys u i h = u i h
-in-sent-order true xs ys u i h =
-    omega (arith, getD-table (pick order xs) 44 0 i h, getD-table (pick order ys) 44 0 i h, u (getD order i 0) (band-place i h .inside))
+in-sent-order false xs ys u = u
+in-sent-order true xs ys u = picked-under order xs ys (λ i h. band-place i h .inside) u
 
 in-band-order : (transient : Bool) (xs ys : List ℕ) → NowhereAbove xs ys → NowhereAbove (banded transient xs) (banded transient ys)
 unfolding banded
-in-band-order false xs ys u i h = u i h
-in-band-order true xs ys u i h =
-    omega (arith, getD-table (pick places xs) 44 0 i h, getD-table (pick places ys) 44 0 i h, u (getD places i 0) (place-band i h .inside))
+in-band-order false xs ys u = u
+in-band-order true xs ys u = picked-under places xs ys (λ i h. place-band i h .inside) u
 
 module _ (transient : Bool) (norms : List ℕ) (long : length norms ≡ 44) where
   -- the result as it is sent
@@ -119,6 +121,21 @@ module _ (transient : Bool) (norms : List ℕ) (long : length norms ≡ 44) wher
   pub legal-stays : LegalNorms transient norms → legalOf transient norms ≡ norms
   legal-stays w = same (legalOf transient norms) norms length-legal-of long legal-under (legal-greatest norms w (λ i h. omega arith))
 
+  -- an index that was lowered cannot be one higher, the others as they are
+  pub legal-none-higher : (band : ℕ) → band < 44 → getD (legalOf transient norms) band 0 < getD norms band 0
+      → LegalNorms transient (set (legalOf transient norms) band (getD (legalOf transient norms) band 0 + 1)) → ⊥
+  legal-none-higher band h fell w =
+      let r = legalOf transient norms in
+      let v = getD r band 0 + 1 in
+      let there = getD-set-same r band v 0 (omega (arith, length-legal-of)) in
+      let under : NowhereAbove (set r band v) norms =
+      λ i l.
+      elim (ℕ-discrete i band) [
+        | yes e ↦ rw e (omega (arith, there))
+        | no e ↦ omega (arith, getD-set-other r band i v 0 e, legal-under i l)
+      ] in
+      omega (arith, there, legal-greatest (set r band v) w under band h)
+
   module _ (small : (band : ℕ) → band < 44 → getD norms band 0 ≤ 39) where
     pub legal-legal : LegalNorms transient (legalOf transient norms)
     legal-legal =
@@ -128,21 +145,6 @@ module _ (transient : Bool) (norms : List ℕ) (long : length norms ≡ 44) wher
               subst⁻¹ LegalIndices legal-as-sent
               (sent-legal (sent transient norms) (length-sent transient norms long) (sent-each transient norms (λ (x : ℕ). x ≤ 39) small));
         }
-
-    -- an index that was lowered cannot be one higher, the others as they are
-    pub legal-none-higher : (band : ℕ) → band < 44 → getD (legalOf transient norms) band 0 < getD norms band 0
-        → LegalNorms transient (set (legalOf transient norms) band (getD (legalOf transient norms) band 0 + 1)) → ⊥
-    legal-none-higher band h fell w =
-        let r = legalOf transient norms in
-        let v = getD r band 0 + 1 in
-        let there = getD-set-same r band v 0 (omega (arith, length-legal-of)) in
-        let under : NowhereAbove (set r band v) norms =
-        λ i l.
-        elim (ℕ-discrete i band) [
-          | yes e ↦ rw e (omega (arith, there))
-          | no e ↦ omega (arith, getD-set-other r band i v 0 e, legal-under i l)
-        ] in
-        omega (arith, there, legal-greatest (set r band v) w under band h)
 
     -- no other norms are legal, nowhere above the given ones, and such that no others that are so are above them
     pub legal-only : (others : List ℕ) → LegalNorms transient others → NowhereAbove others norms

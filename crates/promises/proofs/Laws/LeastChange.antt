@@ -56,7 +56,7 @@ module _ (transient : Bool) (norms : List ℕ) (given : Indices norms) where
         twice = ap (call.legalise transient) told ∙ twice;
         none-one-higher =
             subst⁻¹ (λ (r : List ℕ). (band : ℕ) → band < 44 → nth r band < nth norms band → LegalNorms transient (set r band (nth r band + 1)) → ⊥) told
-            (legal-none-higher transient norms (given .long) (given .range));
+            (legal-none-higher transient norms (given .long));
         no-other = λ others w u g. legal-only transient norms (given .long) (given .range) others w u g ∙ sym told;
       }
 
