@@ -1,5 +1,8 @@
 // The allotment of 7.5.2: the kind of frame, whether bands 36 to 43 compete, 44 norm indices and a budget give 44 rates, the bits left and the number of
 // rounds that the contest takes.
+
+#![tactic(auto)]
+
 ghost use Rattle.std.specs.Prelude.{true, ◌≡◌, ℕ, ◌+◌, ◌-◌, ◌*◌, ◌≤◌, ◌<◌};
 ghost use Rattle.ground.specs.ListsByRule.{table};
 ghost use Rattle.ground.specs.Sums.{nth};

@@ -1,5 +1,8 @@
 // Bits of lent bytes, top bit first: n bits at a bit place, read and written, by bytes and never bit by bit.
 // In specs/: codings of numbers as words, and codecs. Their two laws are in proofs/Laws.
+
+#![tactic(auto)]
+
 ghost use Rattle.std.specs.Prelude.{◌≡◌, ℕ, ◌+◌, ◌*◌, ◌/◌, ◌%◌, ◌<◌, min, get_or, set};
 ghost use Rattle.bits.specs.Bits.{val, view, word, laid};
 ghost use Rattle.bits.specs.Codings.{reply_of};

@@ -1,4 +1,7 @@
 // A block of several channels read (A.4.2; 02, No. 2): the whole of it is tried first, then each frame into its own part of the lent memory.
+
+#![tactic(auto)]
+
 ghost use Rattle.std.specs.Prelude.{◌≡◌, ◌+◌, ◌*◌, ◌≤◌, length};
 ghost use Rattle.frame.specs.Answers.{stopped_at};
 ghost use Rattle.block_reader.specs.Reading.{block_reply, no_block, block_of, codes_of, tails_of, block_answer, codes_after, tails_after};

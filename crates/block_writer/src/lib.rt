@@ -1,4 +1,7 @@
 // A block of several channels written (A.4.2; 02, No. 2): every frame is tried first, channel by channel, then the room; only then is anything laid.
+
+#![tactic(auto)]
+
 ghost use Rattle.std.specs.Prelude.{◌≡◌, ◌++◌, ◌+◌, ◌*◌, ◌≤◌, ◌<◌, length, drop};
 ghost use Rattle.ground.specs.Refusals.{first};
 ghost use Rattle.ground.specs.Runs.{runs};

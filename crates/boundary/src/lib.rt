@@ -1,4 +1,7 @@
 // What crosses to C and back: flags as numbers, answers as structs with the reply first.
+
+#![tactic(auto)]
+
 ghost use Rattle.std.specs.Prelude.{◌≡◌, map, length};
 ghost use Rattle.boundary.specs.PrefixStructs.{prefix_numbers, byte_numbers};
 ghost use Rattle.boundary.specs.Flags.{flag_in, flag_out, record_in, record_out, reading_out, choice_out, block_out, records_in};

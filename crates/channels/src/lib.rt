@@ -1,4 +1,7 @@
 // Recordings of several channels (02, No. 2): checked in blocks, and one channel taken out. Frames are copied as stored.
+
+#![tactic(auto)]
+
 ghost use Rattle.std.specs.Prelude.{◌≡◌, length, drop, ◌++◌, ◌+◌, ◌≤◌};
 ghost use Rattle.channels.specs.Copies.{check_answer, refused_copy, stopped_copy, is_among, extracted, extract_answer, extract_after};
 

@@ -1,4 +1,7 @@
 // The FlagC choice (01, Coefficient codes): 1 exactly when words cost less than fixed codes over the bands at rates 2 to 5.
+
+#![tactic(auto)]
+
 ghost use Rattle.std.specs.Prelude.{◌≡◌, false, ◌≤◌, length};
 ghost use Rattle.words.specs.WritingTable.{writing_table};
 ghost use Rattle.choice.specs.Choice.{as_word, as_fixed, plain, choice_of};

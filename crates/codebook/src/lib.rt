@@ -1,5 +1,8 @@
 // The codebook of rate 1 (001, 7.6.1, Tables 18 and 19; 01, "Rate 1"): the row of an index.
 // A row is kept as a code: its high byte has a one for each place above 0, its low byte a one for each place below 0.
+
+#![tactic(auto)]
+
 ghost use Rattle.std.specs.Prelude.{◌≡◌, ◌<◌, get_or};
 ghost use Rattle.codebook.specs.Codebook.{row, row_point};
 ghost use Rattle.codebook.specs.Packed.{code, entry};

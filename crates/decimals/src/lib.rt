@@ -1,4 +1,7 @@
 // Numbers as text: so many digits, or as many as a number has, put into a lent slice.
+
+#![tactic(auto)]
+
 ghost use Rattle.std.specs.Prelude.{◌≡◌, ◌++◌, ◌+◌, ◌≤◌, ◌<◌, length};
 ghost use Rattle.decimals.specs.Decimals.{digits, decimal};
 ghost use Rattle.ground.specs.Laying.{TextLaid};

@@ -1,4 +1,7 @@
 // The stored frame (01, Stored frame; 7.6, 7.8, 8.3, A.4.1): the record and its reading.
+
+#![tactic(auto)]
+
 ghost use Rattle.std.specs.Prelude.{◌≡◌, ◌++◌, ◌+◌, ◌-◌, ◌*◌, ◌≤◌, ◌<◌, length, drop};
 ghost use Rattle.bits.specs.Bits.{view, bit};
 ghost use Rattle.prefix.specs.Sizes.{mode_bytes};

@@ -1,4 +1,7 @@
 // The stored frames of a recording: where each begins, and how many bytes it has, by the prefix bytes alone.
+
+#![tactic(auto)]
+
 ghost use Rattle.std.specs.Prelude.{◌≡◌, ◌≤◌, length, drop};
 ghost use Rattle.ground.specs.Refusals.{first};
 ghost use Rattle.prefix.specs.Prefix.{prefix_of};

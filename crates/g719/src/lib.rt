@@ -1,4 +1,7 @@
 // The C interface (include/g719.h): each public call under a C name, with the whole promise of the call that it hands on to.
+
+#![tactic(auto)]
+
 ghost use Rattle.std.specs.Prelude.{◌≡◌, length};
 ghost use Rattle.prefix.specs.Prefix.{prefix_of, byte_of};
 ghost use Rattle.norms.specs.Answers.{choice_of as flag_n};

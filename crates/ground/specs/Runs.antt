@@ -1,6 +1,6 @@
 -- Lists made of runs, f 0 ++ f 1 ++ … ++ f (n − 1), and a part of a list.
 -- Assumes nothing.
-use Rattle.std.specs.Prelude.{List, [], ◌∷◌, ◌++◌, ℕ, zero, suc, ◌*◌, drop, take}
+use Rattle.std.specs.Prelude.{List, [], ◌++◌, ℕ, zero, suc, ◌*◌, drop, take}
 
 module _ {A : Type 0} where
   unfoldable pub runs : ℕ → (ℕ → List A) → List A

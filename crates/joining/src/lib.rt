@@ -1,4 +1,7 @@
 // One-channel recordings of equal count joined (02, No. 2): one frame of each in turn, block by block. Frames are copied as stored.
+
+#![tactic(auto)]
+
 ghost use Rattle.std.specs.Prelude.{◌≡◌, cond, false, List, ◌++◌, ℕ, ◌+◌, ◌≤◌, ◌<◌, eqb, length, drop};
 ghost use Rattle.ground.specs.Laying.{TextLaid};
 ghost use Rattle.recording.specs.Walk.{most_frames};

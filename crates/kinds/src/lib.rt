@@ -1,4 +1,7 @@
 // What stands at each of the 800 places of a frame (01, Coefficient codes; 7.6): from flags, norms and budget to rates, and from rates to kinds.
+
+#![tactic(auto)]
+
 ghost use Rattle.std.specs.Prelude.{◌≡◌, ◌+◌, ◌-◌, ◌<◌};
 ghost use Rattle.allotment.specs.Allotment.{shares_of};
 ghost use Rattle.kinds.specs.Kinds.{band_of, kind_of, kinds};

@@ -1,4 +1,7 @@
 // From a lattice index to its point, at the rates 2 to 9 (01, Lattice; 7.6.2): rounded, and one place changed where the sum is odd.
+
+#![tactic(auto)]
+
 ghost use Rattle.std.specs.Prelude.{◌≡◌, cond, eqb, ltb, ℕ, suc, ◌+◌, ◌*◌, ◌%◌, ◌<◌, ◌≤◌, ◌^◌, get_or};
 ghost use Rattle.ground.specs.Differences.{Is};
 ghost use Rattle.ground.specs.Sums.{sum_to};

@@ -1,4 +1,7 @@
 // How the bits of a record part (01, Stored frame; 7.8): its budget, its rates, the bits of its codes, and what is left for the tail.
+
+#![tactic(auto)]
+
 ghost use Rattle.std.specs.Prelude.{◌≡◌, map, ◌+◌, ◌-◌, ◌*◌, ◌≤◌, ◌<◌, length};
 ghost use Rattle.ground.specs.Refusals.{first};
 ghost use Rattle.words.specs.Tables.{coding};

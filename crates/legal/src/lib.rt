@@ -1,4 +1,7 @@
 // Legalising norms (7.4): the greatest norms under the given ones that can be sent.
+
+#![tactic(auto)]
+
 ghost use Rattle.std.specs.Prelude.{◌≡◌, ℕ, ◌+◌, ◌≤◌, ◌<◌, min, get_or};
 ghost use Rattle.legal.specs.Legal.{capped, lowered, held};
 ghost use Rattle.legal.specs.Answers.{legalised};

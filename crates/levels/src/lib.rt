@@ -1,5 +1,8 @@
 // The contest's answer, whole levels served at once. All offers above a level are granted together where the budget pays them; then the few rounds that are
 // left are played one by one.
+
+#![tactic(auto)]
+
 ghost use Rattle.std.specs.Prelude.{length, ◌≡◌, ℕ, ◌+◌, ◌-◌, ◌*◌, ◌/◌, ◌≤◌, ◌<◌};
 ghost use Rattle.ground.specs.ListsByRule.{table};
 ghost use Rattle.ground.specs.Sums.{nth};

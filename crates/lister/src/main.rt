@@ -1,5 +1,8 @@
 // The lister (01, Lister): a line for each frame of the recording on standard input, then the total line. One line alone for more than 65,536
 // bytes, for an input that could not be read, and for an argument.
+
+#![tactic(auto)]
+
 ghost use Rattle.std.specs.Prelude.{◌≡◌, length};
 ghost use Rattle.lister.specs.Inner.{told, Within};
 

@@ -1,4 +1,7 @@
 // The listing of a recording (01, Lister): a line for each frame and the total line, laid into lent bytes.
+
+#![tactic(auto)]
+
 ghost use Rattle.std.specs.Prelude.{◌≡◌, ◌+◌, ◌≤◌, ◌<◌, length};
 ghost use Rattle.listing.specs.Text.{frame_line, total_line};
 ghost use Rattle.ground.specs.Laying.{TextLaid};

@@ -1,4 +1,7 @@
 // The words of norms (Table 16) by their shape (02, No. 3): neither the words nor a look-up of them stands in the code.
+
+#![tactic(auto)]
+
 ghost use Rattle.std.specs.Prelude.{◌≡◌, ◌+◌, ◌≤◌, ◌<◌};
 ghost use Rattle.norm_words.specs.Shape.{word_in, middle, at_least, more_bits, seven_of, spelling, step_size, beyond};
 

@@ -1,4 +1,7 @@
 // The 44 norm indices as they stand in a frame: read, written and counted, and the FlagN choice (7.4, 8.2).
+
+#![tactic(auto)]
+
 ghost use Rattle.std.specs.Prelude.{◌≡◌, ◌+◌, ◌-◌, ◌≤◌, ◌<◌, leb, length};
 ghost use Rattle.bits.specs.Bits.{view, laid};
 ghost use Rattle.order.specs.SentOrder.{sent};

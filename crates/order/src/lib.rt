@@ -1,4 +1,7 @@
 // The order in which the 44 norms are sent (8.2): band order, or in a transient frame the interleaved order.
+
+#![tactic(auto)]
+
 ghost use Rattle.std.specs.Prelude.{◌≡◌, ℕ, ◌<◌, length, get_or};
 ghost use Rattle.ground.specs.ListsByRule.{table};
 ghost use Rattle.order.specs.SentOrder.{pick, sent, banded};

@@ -1,4 +1,7 @@
 // Lattice points and their indices at the rates 2 to 9 (01, Lattice; 7.6.2): the two calls, each other's inverse.
+
+#![tactic(auto)]
+
 ghost use Rattle.std.specs.Prelude.{◌≡◌, ℕ, suc, ◌+◌, ◌%◌, ◌<◌, ◌≤◌, ◌^◌, get_or, pos};
 ghost use Rattle.ground.specs.Differences.{Is};
 ghost use Rattle.lattice.specs.Lattice.{sum_z, point, back_at, back};

@@ -1,5 +1,8 @@
 // The prefix byte of a stored frame (A.4.1): F, L, R. A mode (Table 22) and a field L (Table A.2) name the same sizes, and neither
 // stands for the other.
+
+#![tactic(auto)]
+
 ghost use Rattle.std.specs.Prelude.{◌≡◌};
 ghost use Rattle.prefix.specs.Sizes.{mode_bytes, length_bytes, length_of, mode_of};
 ghost use Rattle.prefix.specs.Prefix.{prefix_of, byte_of};

@@ -1,5 +1,8 @@
 // The file check (01, File check): every frame of a recording read in full, its sound frames counted and held against a booking. One walk serves
 // one channel and several: it goes from block to block, and with one channel a block is a frame (02, No. 2).
+
+#![tactic(auto)]
+
 ghost use Rattle.std.specs.Prelude.{◌≡◌, ◌-◌, ◌≤◌, drop};
 ghost use Rattle.recording.specs.Walk.{next_step, most_frames, made_check, check_of};
 ghost use Rattle.recording.specs.Inner.{is_sound, reply_behind};

@@ -1,4 +1,7 @@
 // How many rounds a contest took (02, No. 5), from the rates that it ended with.
+
+#![tactic(auto)]
+
 ghost use Rattle.std.specs.Prelude.{cond, ◌&&◌, ◌≡◌, ◌+◌, ◌≤◌, ltb};
 ghost use Rattle.ground.specs.Sums.{nth};
 ghost use Rattle.contest.specs.Bands.{competing};

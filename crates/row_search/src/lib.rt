@@ -1,4 +1,7 @@
 // The row of a point at rate 1 (01, Codebook; 7.6.1, Table 18): by its code, among the rows of its class.
+
+#![tactic(auto)]
+
 ghost use Rattle.std.specs.Prelude.{◌≡◌, ℕ, ◌<◌, ◌≤◌};
 ghost use Rattle.codebook.specs.Codebook.{row, no_row, row_index};
 ghost use Rattle.codebook.specs.Packed.{weight, code, entry, sign_class, Found};

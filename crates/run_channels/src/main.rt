@@ -1,4 +1,7 @@
 // Runs the calls on several channels on the lines of standard input, at most 65,536 bytes, every reply, and writes a line for each.
+
+#![tactic(auto)]
+
 ghost use Rattle.std.specs.Prelude.{◌<◌, ◌≤◌, length};
 
 use block_reader::Block;

@@ -1,4 +1,7 @@
 // Reads the stored frames of standard input, every reply, size and flag, and writes a line for each.
+
+#![tactic(auto)]
+
 ghost use Rattle.std.specs.Prelude.{◌+◌, ◌*◌, ◌≤◌, length};
 
 use frame::Reading;

@@ -1,4 +1,7 @@
 // Runs the lowest layers over their whole tables and prints what they answer: prefix bytes, sizes, and each word written and read back.
+
+#![tactic(auto)]
+
 use ground::numbers::size_from_u8;
 use prefix::{Byte, Length, Mode, Prefix};
 use run_lines::show;

@@ -1,4 +1,7 @@
 // Lists recordings at the bounds of 01: the printed examples, 3,000 empty frames and one byte more, 65,536 bytes and one more, a room that is short.
+
+#![tactic(auto)]
+
 use ground::numbers::minus;
 use run_lines::numbers::{least, of_flag};
 use run_lines::show;

@@ -1,5 +1,8 @@
 // Runs the calls on norms over made norms and prints what they answer: both orders, replies, choices, legal norms, and norm parts written and
 // read back. Lists of norms and of bytes are printed as a checksum.
+
+#![tactic(auto)]
+
 use norms::NormPart;
 use run_lines::checksums::of_bytes;
 use run_lines::numbers::of_flag;

@@ -1,4 +1,7 @@
 // Runs the four point calls on the lines of standard input, and writes a line for each answer.
+
+#![tactic(auto)]
+
 ghost use Rattle.std.specs.Prelude.{◌+◌, ◌≤◌, length};
 
 use codebook::Row;

@@ -1,4 +1,7 @@
 // Runs the weights and the allotment on the lines of standard input, and prints what both calls answer.
+
+#![tactic(auto)]
+
 ghost use Rattle.std.specs.Prelude.{length, ◌≤◌};
 
 use ground::numbers::raise;

@@ -1,4 +1,7 @@
 // Runs the writer, the empty frame and the FlagC choice on the lines of standard input, at most 65,536 bytes, and writes a line for each.
+
+#![tactic(auto)]
+
 ghost use Rattle.std.specs.Prelude.{◌<◌, length};
 
 use frame::Record;

@@ -1,5 +1,8 @@
 // Words of short kinds, which need no table and have at most eight bits: as many bits as the kind says, and norm words. They are read and written two
 // at a time, off one look at the bits.
+
+#![tactic(auto)]
+
 ghost use Rattle.std.specs.Prelude.{◌≡◌, List, ◌++◌, map, ℕ, ◌+◌, ◌-◌, ◌*◌, ◌%◌, ◌≤◌, ◌<◌, T, length, get_or};
 ghost use Rattle.bits.specs.Bits.{word, laid};
 ghost use Rattle.bits.specs.Codings.{word_of};

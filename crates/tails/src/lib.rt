@@ -1,4 +1,7 @@
 // The tail of a frame (01, Stored frame): its bits lent as bytes, laid behind the noise, and the padding that must be 0.
+
+#![tactic(auto)]
+
 ghost use Rattle.std.specs.Prelude.{◌≡◌, ◌++◌, ◌+◌, ◌-◌, ◌*◌, ◌≤◌, ◌<◌, length, drop};
 ghost use Rattle.bits.specs.Bits.{view, val, laid};
 ghost use Rattle.tails.specs.Tails.{tail_from, clear};

@@ -1,4 +1,7 @@
 // The weights and starting scores of 7.5.1. The code counts in naturals: loudness raised by 5, every 720th by 3,600.
+
+#![tactic(auto)]
+
 mod columns;
 
 ghost use Rattle.std.specs.Prelude.{length, ◌≡◌, true, ℕ, ◌+◌, ◌-◌, ◌*◌, ◌/◌, ◌≤◌, ◌<◌, max, min};

@@ -1,5 +1,8 @@
 // The words of a frame: as many bits as a place has, coefficient words (Table 20), read by one look-up and written by their table, and norm words
 // (Table 16), which are read and written by their shape.
+
+#![tactic(auto)]
+
 ghost use Rattle.std.specs.Prelude.{◌≡◌, ◌+◌, ◌*◌, ◌≤◌, ◌<◌, T, length, get_or, []};
 ghost use Rattle.bits.specs.Bits.{word, view, laid};
 ghost use Rattle.bits.specs.Codings.{fixed, unword, word_of, fit};

@@ -1,4 +1,7 @@
 // The writer of stored frames (01, Stored frame; 7.6, 7.8): rooms, noise and tail tried, and the frame laid into a lent output.
+
+#![tactic(auto)]
+
 ghost use Rattle.std.specs.Prelude.{◌≡◌, ◌∷◌, ◌+◌, ◌*◌, ◌≤◌, ◌<◌, length};
 ghost use Rattle.ground.specs.Refusals.{said, first};
 ghost use Rattle.bits.specs.Bits.{laid, word, num};

@@ -6,7 +6,7 @@ use mathlib.Core.List.{List, [], ◌∷◌, ◌++◌}
 use Prim.Native.Nat.{ℕ, zero, suc, ◌+◌, ◌-◌, ◌*◌, ◌/◌, ◌%◌, ◌^◌, ◌≤◌}
 use native.Mathlib.Nat.{zero-add, suc-add, mod-eq_of_lt}
 use native.Mathlib.Omega.{arith}
-use lib.ListN.{length, get_or, take, drop, length_append, length-drop, take-append-drop}
+use lib.ListN.{length, get_or, take, drop, length-append, length-drop, take-append-drop}
 use lib.Seq.{take_at, drop_at, length-take-le}
 use Rattle.bits.specs.Bits.{odd, word, val, view, bits_of, bytes_of, Bytes}
 use Rattle.bits.proofs.Laws.NumbersAsBits.{val_word, word_val, length_word}
@@ -15,7 +15,7 @@ use Rattle.bits.proofs.Laws.Views.{view_add, view_byte, take_view, drop_view}
 pub length_bits : (s : List ℕ) → length (bits_of s) ≡ length s * 8
 unfolding bits_of
 length_bits [] = refl
-length_bits (b ∷ s) = omega (arith, length_append (word 8 b) (bits_of s), length_word 8 b, length_bits s)
+length_bits (b ∷ s) = omega (arith, length-append (word 8 b) (bits_of s), length_word 8 b, length_bits s)
 
 pub length_bytes_lem : (k : ℕ) (b : List Bool) → length (bytes_of k b) ≡ k
 unfolding bytes_of

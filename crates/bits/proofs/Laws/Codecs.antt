@@ -6,7 +6,7 @@ use mathlib.Core.List.{List, [], ◌∷◌, ◌++◌, append_assoc}
 use Prim.Native.Nat.{ℕ, suc, ◌+◌, ◌-◌, ◌≤◌, zero-le}
 use native.Mathlib.Omega.{arith}
 use lib.Dec.{leb}
-use lib.ListN.{length, take, drop, length_append, take-append-drop}
+use lib.ListN.{length, take, drop, length-append, take-append-drop}
 use lib.Seq.{take_at, drop_at, length-take-le, take-append-add, drop-append-add}
 use borrow.Author.Tests.{le-leb, leb-true}
 use Rattle.bits.specs.Codings.{Coding, Answer, got, no, unword, word_of}
@@ -81,7 +81,7 @@ module _ {A B : Type 0} {k : ℕ} {c : Codec A} {d : A → Codec B} (C : Lawful 
   pair_back : (p : A × B) (r : List Bool) → (pair c d).Ok p → (pair c d).read ((pair c d).write p ++ r) ≡ got p r
   pair_back p r f =
       let w = (d p.0).write p.1 in
-      let room : k ≤ length (w ++ r) = omega (arith, length_append w r, long p.0 p.1 f.1) in
+      let room : k ≤ length (w ++ r) = omega (arith, length-append w r, long p.0 p.1 f.1) in
       rw (append_assoc (c.write p.0) w r, C.back p.0 (w ++ r) f.0 room, (D p.0).back p.1 r f.1 zero-le)
 
   pair_there : (b : List Bool) (p : A × B) (r : List Bool) → (pair c d).read b ≡ got p r → (b ≡ (pair c d).write p ++ r) × (pair c d).Ok p
@@ -107,7 +107,7 @@ module _ (n : ℕ) where
   raw_back : (a r : List Bool) → length a ≡ n → raw_read n (a ++ r) ≡ got a r
   unfolding raw_read
   raw_back a r h =
-      rw (le-leb n (length (a ++ r)) (omega (arith, length_append a r)), take_at a r n h, drop_at a r n h)
+      rw (le-leb n (length (a ++ r)) (omega (arith, length-append a r)), take_at a r n h, drop_at a r n h)
 
   raw_there : (b a r : List Bool) (t : Bool) → leb n (length b) ≡ t → raw_got t n b ≡ got a r → (b ≡ a ++ r) × (length a ≡ n)
   raw_there b a r true l e =
@@ -126,7 +126,7 @@ module _ {A : Type 0} (k : ℕ) {c : Codec A} (C : Lawful 0 c) where
   within_back : (a : A) (r : List Bool) → c.Ok a → k ≤ length r → (within k c).read (c.write a ++ r) ≡ got a r
   within_back a r f h =
       let w = c.write a in
-      let e : length (w ++ r) - k ≡ length w + (length r - k) = omega (arith, length_append w r) in
+      let e : length (w ++ r) - k ≡ length w + (length r - k) = omega (arith, length-append w r) in
       rw (
         e,
         take-append-add w r (length r - k),

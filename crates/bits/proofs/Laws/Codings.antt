@@ -8,7 +8,7 @@ use Prim.Native.Nat.{ℕ, zero, suc, ◌+◌, ◌-◌, ◌^◌, ◌≤◌, ◌<�
 use native.Mathlib.Nat.{add-zero, zero-add, add-suc, suc-add, le_of_suc-le-suc, mod-eq_of_lt}
 use native.Mathlib.Omega.{arith}
 use lib.Dec.{T, leb, ltb}
-use lib.ListN.{length, get_or, take, drop, length_append, take-append-drop, get_or-append}
+use lib.ListN.{length, get_or, take, drop, length-append, take-append-drop, get_or-append}
 use lib.Seq.{take_at, drop_at, length-take-le}
 use borrow.Author.Tests.{le-leb, lt-leb, leb-true, ltb-true, lt-ltb, le-ltb}
 use Rattle.ground.proofs.Laws.Cases.{and_T}
@@ -126,10 +126,10 @@ find_sound (w ∷ t) k b v r e = go (strip w b) refl e (find_sound t (suc k) b v
 pub unword_word : (c : Coding) (v : ℕ) (r : List Bool) → Good c → Fit c v → unword c (word_of c v ++ r) ≡ got v r
 unfolding unword word_of
 unword_word (fixed n) v r g f =
-    let h : n ≤ length (word n v ++ r) = omega (arith, length_append (word n v) r, length_word n v) in
+    let h : n ≤ length (word n v ++ r) = omega (arith, length-append (word n v) r, length_word n v) in
     rw (le-leb n (length (word n v ++ r)) h, take_at (word n v) r n (length_word n v), drop_at (word n v) r n (length_word n v), val_word n v, mod-eq_of_lt f)
 unword_word (prefix t u) v r g f =
-    let h : v < length (t ++ u) = omega (arith, length_append t u) in
+    let h : v < length (t ++ u) = omega (arith, length-append t u) in
     let e : find (t ++ u) 0 (get_or t v [] ++ r) ≡ got v r =
     ap (λ (w : List Bool). find (t ++ u) 0 (w ++ r)) (sym (get_or-append t u [] v f))
     ∙ find_word (t ++ u) 0 v r g h
@@ -192,7 +192,7 @@ find_cut t v b z y f h e l = go (find t 0 b) refl
         let e₂ : got (0 + s.place) (r ++ z) ≡ got (0 + v) y = sym at_place ∙ ap (find t 0) e₁ ∙ at-v in
         let e₃ : 0 + s.place ≡ 0 + v = cc in
         let e₄ : s.place ≡ v = omega arith in
-        absurd (omega (arith, ap length s.begins, length_append (get_or t s.place []) r, ap (λ (k : ℕ). length (get_or t k [])) e₄))
+        absurd (omega (arith, ap length s.begins, length-append (get_or t s.place []) r, ap (λ (k : ℕ). length (get_or t k [])) e₄))
     go (no x) q = ap no (find_no t 0 b x q)
 
 -- ---- words at a place of some bytes

@@ -8,7 +8,7 @@ use Prim.Native.Nat.{ℕ, zero, suc, ◌+◌, ◌-◌, ◌*◌, ◌/◌, ◌%◌
 use native.Mathlib.Nat.{add-zero, zero-add, suc-add, add-suc, add_assoc, mod-eq_of_lt, mod-lt, div-mul-le_self, lt_of_lt_of_le}
 use native.Mathlib.Omega.{arith}
 use native.Mathlib.Decide.{ℕ_discrete, dec_lt}
-use lib.ListN.{length, get_or, take, drop, set, length_append, length-set, length-take, length-drop, get_or-eq_default}
+use lib.ListN.{length, get_or, take, drop, set, length-append, length-set, length-take, length-drop, get_or-eq_default}
 use lib.Pow.{pow_pos, pow_mono, shl_exact}
 use lib.Seq.{drop-nil, drop-drop, sets, sets-eq, length-sets, set-get_or, set_out, drop_at, take_at, get_or-take, get_or-drop, get_or-set_same, get_or-set_other}
 use Rattle.bits.specs.Bits.{word, val, bit, view, bits_of, bytes_of, laid, Bytes}
@@ -76,7 +76,7 @@ bits_set (b ∷ s) zero x =
     let w = word 8 x in
     let e : 0 + length w ≡ 8 = omega (arith, length_word 8 x) in
     sym
-    (sets-eq w (word 8 b ++ bits_of s) 0 (omega (arith, length_append (word 8 b) (bits_of s), length_word 8 b, length_word 8 x))
+    (sets-eq w (word 8 b ++ bits_of s) 0 (omega (arith, length-append (word 8 b) (bits_of s), length_word 8 b, length_word 8 x))
     ∙ ap (λ (l : List Bool). w ++ l) (ap (λ (k : ℕ). drop k (word 8 b ++ bits_of s)) e ∙ drop_at (word 8 b) (bits_of s) 8 (length_word 8 b)))
 bits_set (b ∷ s) (suc i) x =
     let e : length (word 8 b) + i * 8 ≡ suc i * 8 = omega (arith, length_word 8 b) in
@@ -191,7 +191,7 @@ unfolding bits_of
 laid_behind x s n w b h l m =
     let t = bytes_of n w ++ drop n s in
     let long : length (laid (x ∷ s) 8 w) ≡ length (x ∷ t) =
-    omega (arith, length_laid (x ∷ s) 8 w, length_append (bytes_of n w) (drop n s), length_bytes_lem n w, length-drop n s) in
+    omega (arith, length_laid (x ∷ s) 8 w, length-append (bytes_of n w) (drop n s), length_bytes_lem n w, length-drop n s) in
     let e : length (word 8 x) + 0 ≡ 8 = omega (arith, length_word 8 x) in
     let z : 0 + length w ≡ n * 8 = omega arith in
     let bits : bits_of (laid (x ∷ s) 8 w) ≡ bits_of (x ∷ t) =
@@ -219,7 +219,7 @@ window_bits s i x =
     let s₂ = set s₁ (i + 1) (x / 256 % 256) in
     let e₁ : (i + 1) * 8 ≡ i * 8 + length a = omega (arith, length_word 8 (x / 65536 % 256)) in
     let e₂ : (i + 2) * 8 ≡ i * 8 + length (a ++ b) =
-    omega (arith, length_append a b, length_word 8 (x / 65536 % 256), length_word 8 (x / 256 % 256)) in
+    omega (arith, length-append a b, length_word 8 (x / 65536 % 256), length_word 8 (x / 256 % 256)) in
     let whole : (a ++ b) ++ c ≡ word 24 x =
     append_assoc a b c
     ∙ ap₂ (λ (y z : List Bool). y ++ z) (word_mod 8 (x / 65536)) (ap₂ (λ (y z : List Bool). y ++ z) (word_mod 8 (x / 256)) (word_mod 8 x)
@@ -258,11 +258,11 @@ module _ (s : List ℕ) (p n v : ℕ) (few : n ≤ 16) where
 
   length_after : length (word n v ++ after) ≡ 24 - p % 8
   unfolding after
-  length_after = omega (arith, length_append (word n v) after, length_word n v, length_view s (p + n) (24 - p % 8 - n))
+  length_after = omega (arith, length-append (word n v) after, length_word n v, length_view s (p + n) (24 - p % 8 - n))
 
   length_new : length new ≡ 24
   unfolding new before
-  length_new = omega (arith, length_append before (word n v ++ after), length_after, length_view s (p / 8 * 8) (p % 8))
+  length_new = omega (arith, length-append before (word n v ++ after), length_after, length_view s (p / 8 * 8) (p % 8))
 
   w : ℕ
   w = val (view s (p / 8 * 8) 24)

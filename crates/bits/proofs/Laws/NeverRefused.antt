@@ -7,7 +7,7 @@ use mathlib.Core.List.{List, [], ◌∷◌, ◌++◌, append_assoc, map}
 use Prim.Native.Nat.{ℕ, zero, suc, ◌+◌, ◌-◌, ◌≤◌}
 use native.Mathlib.Omega.{arith}
 use lib.Dec.{T}
-use lib.ListN.{length, take, drop, length_append, length-drop, take-append-drop}
+use lib.ListN.{length, take, drop, length-append, length-drop, take-append-drop}
 use lib.Seq.{length-take-le}
 use borrow.Author.Tests.{le-leb}
 use Rattle.ground.proofs.Laws.Cases.{and_T}
@@ -61,7 +61,7 @@ never_refused_tested n c g t b h =
     let w = take n b in
     let z = drop n b in
     let (v, r, e) = found_got (unword c w) (any_at n (λ u. found (unword c u)) w (length-take-le n b h) t) in
-    (v, r ++ z, ap (unword c) (sym (take-append-drop n b)) ∙ unword_more c w v r z g e, omega (arith, length_append r z, length-drop n b))
+    (v, r ++ z, ap (unword c) (sym (take-append-drop n b)) ∙ unword_more c w v r z g e, omega (arith, length-append r z, length-drop n b))
 
 -- ---- words of several codings
 
@@ -91,7 +91,7 @@ pub fixed_bits : (ns vs : List ℕ) → length vs ≡ length ns → length (writ
 unfolding write_all word_of sum_of
 fixed_bits [] vs l = refl
 fixed_bits (n ∷ ns) [] l = absurd (omega arith)
-fixed_bits (n ∷ ns) (v ∷ vs) l = omega (arith, length_append (word n v) (write_all (map fixed ns) vs), length_word n v, fixed_bits ns vs (omega arith))
+fixed_bits (n ∷ ns) (v ∷ vs) l = omega (arith, length-append (word n v) (write_all (map fixed ns) vs), length_word n v, fixed_bits ns vs (omega arith))
 
 -- ---- answers that are refused for a norm outside 0 to 39 alone
 

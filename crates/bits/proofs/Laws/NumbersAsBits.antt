@@ -10,7 +10,7 @@ use native.Mathlib.Numerals.{one-add}
 use native.Mathlib.Omega.{arith}
 use lib.Arith.{digits_lt}
 use lib.Dec.{eqb}
-use lib.ListN.{length, length_append}
+use lib.ListN.{length, length-append}
 use lib.Pow.{pow_pos, pow-add, mod-pow-add, high, low, shr-shr, split, shl_exact}
 use Rattle.bits.specs.Bits.{num, odd, word, val}
 
@@ -90,7 +90,7 @@ word_val (b ∷ bs) =
 pub val_append : (a b : List Bool) → val (a ++ b) ≡ val a * 2 ^ length b + val b
 unfolding val
 val_append [] b = omega arith
-val_append (x ∷ a) b = rw (val_append a b, length_append a b, pow-add, add-mul, mul_assoc, add_assoc)
+val_append (x ∷ a) b = rw (val_append a b, length-append a b, pow-add, add-mul, mul_assoc, add_assoc)
 
 -- the front, the middle and the back of some bits, by shifts and remainders
 pub val_front : (a b : List Bool) → val (a ++ b) / 2 ^ length b ≡ val a

@@ -6,7 +6,7 @@ use mathlib.Core.List.{List, ◌∷◌, ◌++◌}
 use Prim.Native.Nat.{ℕ, zero, suc, ◌+◌, ◌-◌, ◌*◌, ◌/◌, ◌%◌, ◌^◌, ◌≤◌, ◌<◌, min}
 use native.Mathlib.Nat.{add-zero, add-suc, suc-add, zero-add, mod-eq_of_lt, lt_of_lt_of_le, zero-div}
 use native.Mathlib.Omega.{arith}
-use lib.ListN.{length, get_or, take, drop, replicate, length_append, get_or-eq_default}
+use lib.ListN.{length, get_or, take, drop, replicate, length-append, get_or-eq_default}
 use lib.Pow.{pow_mono}
 use lib.Seq.{take_at, drop_at}
 use Rattle.bits.specs.Bits.{odd, word, val, bit, view}
@@ -116,7 +116,7 @@ read_lt s p k e = rw e (lt_of_lt_of_le (view_lt s p (min k 16)) (pow_mono {j = 1
 pub view_rest : (s : List ℕ) (p n : ℕ) (w r : List Bool) → view s p n ≡ w ++ r
     → (r ≡ view s (p + length w) (n - length w)) × (length w + length r ≡ n)
 view_rest s p n w r e =
-    let l : length w + length r ≡ n = sym (length_append w r) ∙ sym (ap length e) ∙ length_view s p n in
+    let l : length w + length r ≡ n = sym (length-append w r) ∙ sym (ap length e) ∙ length_view s p n in
     (sym (drop_at w r (length w) refl) ∙ ap (drop (length w)) (sym e) ∙ drop_view s p (length w) n (omega arith), l)
 
 -- and the bits themselves stand there

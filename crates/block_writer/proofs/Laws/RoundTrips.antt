@@ -8,7 +8,7 @@ use Prim.Native.Nat.{ℕ, zero, suc, ◌+◌, ◌-◌, ◌*◌, ◌/◌, ◌≤�
 use native.Mathlib.Nat.{add-zero, zero-mul, suc-mul}
 use native.Mathlib.Omega.{arith}
 use lib.Dec.{eqb, ltb}
-use lib.ListN.{length, get_or, take, drop, replicate, length_append, length-drop, length-map, take-append-drop, get_or-append, get_or-map}
+use lib.ListN.{length, get_or, take, drop, replicate, length-append, length-drop, length-map, take-append-drop, get_or-append, get_or-map}
 use lib.Seq.{take_at, drop_at, drop-length, take_all, length-take-le}
 use borrow.Author.Tests.{le-ltb, ltb-true, ltb-false}
 use Rattle.ground.proofs.Laws.Cases.{by_bool}
@@ -77,7 +77,7 @@ module _ {A : Type 0} (k : ℕ) (f : ℕ → List A) where
   unfolding runs
   runs_long zero h = sym (zero-mul k)
   runs_long (suc n) h =
-      length_append (runs n f) (f n) ∙ ap₂ (λ (a b : ℕ). a + b) (runs_long n (λ j b. h j (omega arith))) (h n (omega arith)) ∙ sym (suc-mul n k)
+      length-append (runs n f) (f n) ∙ ap₂ (λ (a b : ℕ). a + b) (runs_long n (λ j b. h j (omega arith))) (h n (omega arith)) ∙ sym (suc-mul n k)
 
   part_runs : (n c : ℕ) (rest : List A) → ((j : ℕ) → j < n → length (f j) ≡ k) → c < n → part k (runs n f ++ rest) c ≡ f c
   part_runs n c rest h b =
@@ -93,7 +93,7 @@ module _ {A : Type 0} (k : ℕ) (f : ℕ → List A) where
       ∙ take_at (f c) t k (h c b)
 
   parts_long : (n : ℕ) (l : List A) → ((j : ℕ) → j < n → length (f j) ≡ k) → n * k ≤ length l → length (runs n f ++ drop (n * k) l) ≡ length l
-  parts_long n l h b = length_append (runs n f) (drop (n * k) l) ∙ omega (arith, runs_long n h, length-drop (n * k) l)
+  parts_long n l h b = length-append (runs n f) (drop (n * k) l) ∙ omega (arith, runs_long n h, length-drop (n * k) l)
 
 -- ---- the frame of a channel
 
@@ -121,7 +121,7 @@ module _ (f : List ℕ) (a : Stored f) where
       go : Stored f → length (frame.codes_after cs (stored_at f)) ≡ 800
       go (bare e n) = ap (λ (o : Outcome). length (frame.codes_after cs o)) e ∙ l
       go (full m x e n) =
-          ap (λ (o : Outcome). length (frame.codes_after cs o)) e ∙ length_append (codes_in x) (drop 800 cs)
+          ap (λ (o : Outcome). length (frame.codes_after cs o)) e ∙ length-append (codes_in x) (drop 800 cs)
           ∙ omega (arith, sound_codes f m x e, length-drop 800 cs)
 
   tail_long : (ts : List ℕ) → length ts ≡ 320 → length (frame.tail_after ts (stored_at f)) ≡ 320
@@ -132,7 +132,7 @@ module _ (f : List ℕ) (a : Stored f) where
       go (bare e n) = ap (λ (o : Outcome). length (frame.tail_after ts o)) e ∙ l
       go (full m x e n) =
           let b = tail_in x in
-          ap (λ (o : Outcome). length (frame.tail_after ts o)) e ∙ length_append (tail_bytes b) (drop 320 ts)
+          ap (λ (o : Outcome). length (frame.tail_after ts o)) e ∙ length-append (tail_bytes b) (drop 320 ts)
           ∙ omega (arith, length_bytes_lem 320 (b ++ replicate (2560 - length b) false), length-drop 320 ts)
 
 -- ---- A frame that was read into its parts is written back

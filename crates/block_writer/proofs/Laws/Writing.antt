@@ -7,7 +7,7 @@ use Prim.Native.Nat.{ℕ, suc, ◌+◌, ◌-◌, ◌*◌, ◌≤◌, ◌<◌}
 use native.Mathlib.Numerals.{add-one}
 use native.Mathlib.Omega.{arith}
 use lib.Dec.{T, ltb}
-use lib.ListN.{length, drop, take, length_append, length-drop}
+use lib.ListN.{length, drop, take, length-append, length-drop}
 use lib.Seq.{take_at, drop_at, drop-drop, take_all, drop-length}
 use borrow.Author.Tests.{eq-eqb, ne_eqb, ltb-true, ltb-false}
 use Rattle.ground.proofs.Laws.Cases.{by_bool}
@@ -151,11 +151,11 @@ module _ {f : ℕ → List ℕ} {l₀ l : List ℕ} {at c : ℕ} (p : FramesLaid
       ∙ ap (λ (x : List ℕ). runs c f ++ x) (append-nil ys ∙ y ∙ ap (λ (x : List ℕ). f c ++ x) (drop-drop k at l₀))
       ∙ sym (append_assoc (runs c f) (f c) (drop (at + k) l₀))
       ∙ ap (λ (x : List ℕ). x ++ drop (at + k) l₀) (sym (runs_more f c)) in
-      let w : at + k ≡ length (runs (c + 1) f) = sym (ap length (runs_more f c) ∙ length_append (runs c f) (f c) ∙ ap₂ ◌+◌ (sym p.place) n) in
+      let w : at + k ≡ length (runs (c + 1) f) = sym (ap length (runs_more f c) ∙ length-append (runs c f) (f c) ∙ ap₂ ◌+◌ (sym p.place) n) in
       record {
         place = w;
         inside = h;
-        long = ap length s ∙ length_append (runs (c + 1) f) (drop (at + k) l₀) ∙ omega (arith, w, length-drop (at + k) l₀);
+        long = ap length s ∙ length-append (runs (c + 1) f) (drop (at + k) l₀) ∙ omega (arith, w, length-drop (at + k) l₀);
         same = s;
       }
 

@@ -5,7 +5,7 @@ use mathlib.Core.List.{List, [], ◌++◌}
 use Prim.Native.Nat.{ℕ, zero, suc, ◌+◌, ◌-◌, ◌≤◌, ◌<◌}
 use native.Mathlib.Omega.{arith}
 use lib.Dec.{ltb}
-use lib.ListN.{length, take, drop, length_append}
+use lib.ListN.{length, take, drop, length-append}
 use lib.Seq.{take-append-le, take-append-add, drop_at, length-take-le}
 use borrow.Author.Tests.{ltb-true, ltb-false}
 use Rattle.ground.proofs.Laws.Cases.{by_bool}
@@ -57,7 +57,7 @@ block_cut p (more {k} {f} {s} a fs) h b =
     let z : p ≡ length f + q = omega arith in
     let part : take p (f ++ s) ≡ f ++ take q s = ap (λ (j : ℕ). take j (f ++ s)) z ∙ take-append-add f s q in
     let rest : drop (length f) (f ++ take q s) ≡ take q s = drop_at f (take q s) (length f) refl in
-    let c : q < length s = omega (arith, length_append f s) in
+    let c : q < length s = omega (arith, length-append f s) in
     ap₂ block_step e part ∙ block_passed k (f ++ take q s) (length f) (frame_unit.front f (take q s) a) (block_step k (take q s)) (ap (block_step k) rest)
     ∙ rest_cut q (length f) fs c (λ g. block_cut q fs g c))
 

@@ -8,7 +8,7 @@ use native.Mathlib.Nat.{zero-mul, suc-mul}
 use native.Mathlib.Numerals.{add-one}
 use native.Mathlib.Omega.{arith}
 use lib.Dec.{ltb}
-use lib.ListN.{length, take, drop, length_append, length-drop}
+use lib.ListN.{length, take, drop, length-append, length-drop}
 use lib.Seq.{length-take-le}
 use borrow.Author.Tests.{eq-eqb, ne_eqb, lt-ltb, le-ltb, ltb-true}
 use Rattle.ground.specs.Runs.{runs}
@@ -98,7 +98,7 @@ module _ (s : List ℕ) (n c : ℕ) where
       record {
         few = omega arith;
         at_frame = at_next r C.at_frame er;
-        bytes = ap₂ (λ (x y : ℕ). x + y) C.bytes l ∙ sym (ap length (runs_more f b) ∙ length_append (runs b f) (f b));
+        bytes = ap₂ (λ (x y : ℕ). x + y) C.bytes l ∙ sym (ap length (runs_more f b) ∙ length-append (runs b f) (f b));
         before = omega (arith, C.before, g);
       }
 
@@ -132,7 +132,7 @@ module _ (s : List ℕ) (n c : ℕ) where
           ap length part,
           runs_under f (b + 1) k (omega arith),
           ap length (runs_more f b),
-          length_append (runs b f) (f b),
+          length-append (runs b f) (f b),
         )
 
     pub copying_more : {out' : List ℕ} {to' : ℕ} (r : ℕ) → TextLaid out to (take (at + z - at) (drop at s)) out' to' → r ≡ place_from s at n

@@ -7,7 +7,7 @@ use native.Mathlib.Nat.{pow-suc}
 use native.Mathlib.Omega.{arith}
 use borrow.Author.Tests.{ltb-true, ltb-false, lt-ltb, le-ltb}
 use lib.Dec.{ltb}
-use lib.ListN.{length, set, length_append, length-set}
+use lib.ListN.{length, set, length-append, length-set}
 use Rattle.ground.proofs.Laws.Cases.{by_bool}
 use Rattle.decimals.specs.Decimals.{digit, digits, decimal_by, decimal}
 use Rattle.ground.specs.Laying.{laid_text, TextLaid}
@@ -16,7 +16,7 @@ use Rattle.ground.proofs.Laws.Laying.{laid_last}
 pub length_digits : (k n : ℕ) → length (digits k n) ≡ k
 unfolding digits
 length_digits zero n = refl
-length_digits (suc k) n = omega (arith, length_append (digits k (n / 10)) (digit (n % 10) ∷ []), length_digits k (n / 10))
+length_digits (suc k) n = omega (arith, length-append (digits k (n / 10)) (digit (n % 10) ∷ []), length_digits k (n / 10))
 
 -- more than enough digits allowed make no difference
 decimal_enough : (j k n : ℕ) → n < j → n < k → decimal_by j n ≡ decimal_by k n
@@ -46,7 +46,7 @@ length_decimal (suc k) n h =
     let l = length_decimal k (n / 10) m in
     by_bool (ltb n 10)
     (λ t. rw (decimal_one n (ltb-true n 10 t)) (omega arith))
-    (λ t. rw (decimal_more n (ltb-false n 10 t)) (omega (arith, length_append (decimal (n / 10)) (digit (n % 10) ∷ []))))
+    (λ t. rw (decimal_more n (ltb-false n 10 t)) (omega (arith, length-append (decimal (n / 10)) (digit (n % 10) ∷ []))))
 
 -- a number of exactly k + 1 digits
 pub width_one : (n : ℕ) → n < 10 → decimal n ≡ digits 1 n

@@ -2,7 +2,7 @@
 use mathlib.Core.Path.{ap}
 use Prim.Native.Nat.{◌+◌, ◌≤◌}
 use native.Mathlib.Omega.{arith}
-use lib.ListN.{length, length_append}
+use lib.ListN.{length, length-append}
 use Rattle.ground.proofs.Laws.Laying.{laid_long, then}
 use Rattle.decimals.specs.Decimals.{decimal}
 use Rattle.decimals.proofs.Laws.Digits.{length_digits}
@@ -12,7 +12,7 @@ use Rattle.decimals.proofs.put_number.Tie as tie
 
 -- the room that is asked, in its two parts
 room : (a : tie.Start) → a.args.at + (length a.args.label.now + length (decimal a.args.n)) ≤ length a.args.out.now
-room a = omega (arith, a.requires.1, length_append a.args.label.now (decimal a.args.n))
+room a = omega (arith, a.requires.1, length-append a.args.label.now (decimal a.args.n))
 
 put-digits-requires : tie.Need-put-digits-requires
 put-digits-requires c κs =

@@ -5,7 +5,7 @@ use mathlib.Core.Bool.{Bool}
 use mathlib.Core.List.{List, [], ◌∷◌, ◌++◌, map}
 use Prim.Native.Nat.{ℕ, ◌+◌, ◌≤◌, zero-le}
 use native.Mathlib.Omega.{arith}
-use lib.ListN.{length, length_append}
+use lib.ListN.{length, length-append}
 use Rattle.bits.specs.Codings.{fixed, got, word_of}
 use Rattle.bits.specs.Codecs.{words, raw, write_all}
 use Rattle.bits.proofs.Laws.NumbersAsBits.{length_word}
@@ -36,7 +36,7 @@ module _ (total : ℕ) where
       let n = noise_bits (is_transient flags) in
       omega (
         arith,
-        length_append (word_of (fixed n) e.0) ((raw (tail_left total flags norms codes)).write e.1),
+        length-append (word_of (fixed n) e.0) ((raw (tail_left total flags norms codes)).write e.1),
         ap length (word_fixed n e.0),
         length_word n e.0,
       )
@@ -76,10 +76,10 @@ module _ (total : ℕ) where
       let e = (raw (tail_left total f ns vs)).write (tail_in x) in
       omega (
         arith,
-        length_append a (b ++ (c ++ (d ++ e))),
-        length_append b (c ++ (d ++ e)),
-        length_append c (d ++ e),
-        length_append d e,
+        length-append a (b ++ (c ++ (d ++ e))),
+        length-append b (c ++ (d ++ e)),
+        length-append c (d ++ e),
+        length-append d e,
         raw_long 4 f k.0,
         ap length (write_is (is_transient f) (flag_n f) ns),
         ap length (word_fixed n (noise_in x)),
@@ -96,4 +96,4 @@ module _ (total : ℕ) where
   unfolding tail_left budget_of
   frame_whole b x r l e =
       let t = frame_lawful.there b x r e in
-      empty r (omega (arith, ap length t.0, length_append ((frame total).write x) r, frame_bits x t.1))
+      empty r (omega (arith, ap length t.0, length-append ((frame total).write x) r, frame_bits x t.1))

@@ -7,7 +7,7 @@ use mathlib.Core.List.{List, [], ◌∷◌, map}
 use Prim.Native.Nat.{ℕ, zero, suc, ◌+◌, ◌-◌, ◌*◌, ◌≤◌, ◌<◌}
 use native.Mathlib.Omega.{arith}
 use lib.Dec.{ltb}
-use lib.ListN.{length, get_or, take, drop, length_append, length-map, get_or-append}
+use lib.ListN.{length, get_or, take, drop, length-append, length-map, get_or-append}
 use lib.Seq.{length-take-le}
 use borrow.Author.Tests.{ltb-true, ltb-false}
 use Rattle.ground.proofs.Laws.Cases.{by_bool}
@@ -104,7 +104,7 @@ module _ (total : ℕ) (flags : List Bool) (norms : List ℕ) (c : flag_c flags 
       pair_alone (coded (fixed n)) (λ z. raw m) r (coded_alone n (fixed n) (fixed_never_refused n) r (omega arith))
       (λ z q e.
       raw_alone m q
-      (omega (arith, ap length (word_unword (fixed n) r z q e).0, length_append (word_of (fixed n) z) q, ap length (word_fixed n z), length_word n z)))
+      (omega (arith, ap length (word_unword (fixed n) r z q e).0, length-append (word_of (fixed n) z) q, ap length (word_fixed n z), length_word n z)))
 
   rest_alone : (q : List Bool) → length q ≡ budget_of total flags norms + noise_bits (is_transient flags) → NormAlone ((rest_part total flags norms).read q)
   unfolding tail_left code_bits codes_part words
@@ -120,7 +120,7 @@ module _ (total : ℕ) (flags : List Bool) (norms : List ℕ) (c : flag_c flags 
       (omega (
         arith,
         ap length o.0,
-        length_append (write_all (map coding ks) vs) r,
+        length-append (write_all (map coding ks) vs) r,
         plain_bits vs (fit_length (map coding ks) vs o.1 ∙ length-map ks coding),
       )))
 
@@ -136,7 +136,7 @@ module _ (total : ℕ) (least : 640 ≤ total) (most : total ≤ 2560) where
       (λ norms q e.
       let o = norms_there t n r norms q e in
       let b = (norm_bits_lem t n norms o.1).1 in
-      rest_alone total flags norms c o.1 (omega arith) q (omega (arith, ap length o.0, length_append (norm_bits t n norms) q, b, noise_le t)))
+      rest_alone total flags norms c o.1 (omega arith) q (omega (arith, ap length o.0, length-append (norm_bits t n norms) q, b, noise_le t)))
 
   frame_alone : (b : List Bool) → length b ≡ total → get_or b 3 false ≡ false → NormAlone ((frame total).read b)
   unfolding frame raw
@@ -146,7 +146,7 @@ module _ (total : ℕ) (least : 640 ≤ total) (most : total ≤ 2560) where
       let o = (raw_lawful 4).there b flags r e in
       let four : length flags ≡ 4 = o.1 in
       let flag : get_or flags 3 false ≡ false = sym (get_or-append flags r false 3 (omega arith)) ∙ ap (λ (z : List Bool). get_or z 3 false) (sym o.0) ∙ c in
-      norms_rest flags r flag (omega (arith, ap length o.0, length_append flags r)))
+      norms_rest flags r flag (omega (arith, ap length o.0, length-append flags r)))
 
 outcome_five : (mode x : ℕ) (a : Answer Frame) → NormAlone a → outcome mode a ≡ refused x → x ≡ norm_outside
 outcome_five mode x (got f r) h e = absurd (let z : ◌≡◌ {A = ℕ} 0 1 = cc in omega arith)

@@ -5,7 +5,7 @@ use mathlib.Core.List.{List, [], ◌∷◌, ◌++◌, append_assoc, append-nil}
 use Prim.Native.Nat.{ℕ, zero, suc, ◌+◌, ◌-◌, ◌*◌, ◌≤◌, ◌<◌}
 use native.Mathlib.Nat.{add-zero, zero-add, add-suc, suc-mul, zero-mul}
 use native.Mathlib.Omega.{arith}
-use lib.ListN.{length, take, drop, get_or, length_append}
+use lib.ListN.{length, take, drop, get_or, length-append}
 use lib.Seq.{drop-append-add, take_at, drop_at}
 use Rattle.ground.specs.ListsByRule.{table, from}
 use Rattle.ground.proofs.Laws.ListsByRule.{filled}
@@ -79,7 +79,7 @@ unfolding place_from
 placed s none = refl
 placed s (more {k} {f} {s = a} w fs) =
     ap (λ (t : List ℕ). place_of t (1 + k)) (append_assoc f a s) ∙ place_next f (a ++ s) w k ∙ ap (λ (p : ℕ). length f + p) (placed s fs)
-    ∙ sym (length_append f a)
+    ∙ sym (length-append f a)
 
 pub placed_all : {k : ℕ} {s : List ℕ} → Frames k s → place_of s k ≡ length s
 placed_all {k} {s} fs = ap (λ (t : List ℕ). place_of t k) (sym (append-nil s)) ∙ placed [] fs
@@ -157,7 +157,7 @@ one_plus k = omega arith
 
 frames_long : {k : ℕ} {s : List ℕ} → Frames k s → k ≤ length s
 frames_long none = omega arith
-frames_long (more {k} {f} {s} a fs) = omega (arith, frames_long fs, frame_unit.some f a, length_append f s)
+frames_long (more {k} {f} {s} a fs) = omega (arith, frames_long fs, frame_unit.some f a, length-append f s)
 
 pub frames_of_lem : {k : ℕ} {s : List ℕ} → Frames k s → frames_of s ≡ table k (frame_at s)
 unfolding frames_of

@@ -6,7 +6,7 @@ use Prim.Native.Nat.{ℕ, suc, ◌+◌, ◌≤◌, ◌<◌}
 use native.Mathlib.Nat.{add-zero, suc-add, add-suc}
 use native.Mathlib.Numerals.{add-one}
 use native.Mathlib.Omega.{arith}
-use lib.ListN.{length, get_or, set, take, drop, length_append}
+use lib.ListN.{length, get_or, set, take, drop, length-append}
 use lib.Seq.{sets, sets-eq, length-sets, set_comm, take-suc, length-take-le, take_all}
 use Rattle.ground.specs.Laying.{laid_text, TextLaid}
 
@@ -49,7 +49,7 @@ module _ {s t s' : List ℕ} {at next : ℕ} (l : TextLaid s at t s' next) where
   pub then : {u s'' : List ℕ} {end : ℕ} → TextLaid s' next u s'' end → TextLaid s at (t ++ u) s'' end
   then {u} m =
       record {
-        after = omega (arith, m.after, l.after, length_append t u);
+        after = omega (arith, m.after, l.after, length-append t u);
         bytes = m.bytes ∙ ap₂ (λ (x : List ℕ) (k : ℕ). laid_text x k u) l.bytes l.after ∙ laid_append s at t u;
       }
 

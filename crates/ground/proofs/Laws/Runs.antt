@@ -6,7 +6,7 @@ use Prim.Native.Nat.{ℕ, zero, suc, ◌+◌, ◌*◌, ◌-◌, ◌≤◌, ◌<�
 use native.Mathlib.Nat.{zero-mul, suc-mul, add-zero, add-suc}
 use native.Mathlib.Numerals.{add-one}
 use native.Mathlib.Omega.{arith}
-use lib.ListN.{length, drop, take, set, get_or, length-set, replicate, length_append, length-drop}
+use lib.ListN.{length, drop, take, set, get_or, length-set, replicate, length-append, length-drop}
 use lib.Seq.{drop-cons, set_at, append_snoc, take_at, drop_at, drop-drop, length-take-le}
 use Rattle.ground.specs.ListsByRule.{table, from}
 use Rattle.ground.proofs.Laws.ListsByRule.{length_from}
@@ -29,7 +29,7 @@ module _ {A : Type 0} where
     pub length_runs : (n : ℕ) → length (runs n f) ≡ sum_to (λ k. length (f k)) n
     unfolding runs sum_to
     length_runs zero = refl
-    length_runs (suc n) = length_append (runs n f) (f n) ∙ ap (λ (k : ℕ). k + length (f n)) (length_runs n)
+    length_runs (suc n) = length-append (runs n f) (f n) ∙ ap (λ (k : ℕ). k + length (f n)) (length_runs n)
 
   pub runs_same : (f g : ℕ → List A) (n : ℕ) → ((k : ℕ) → k < n → f k ≡ g k) → runs n f ≡ runs n g
   unfolding runs
@@ -123,9 +123,9 @@ module _ {A : Type 0} where
       ∙ ap (λ (x : List A). (runs c f ++ x) ++ drop ((c + 1) * k) l₀) y
       ∙ ap (λ (x : List A). x ++ drop ((c + 1) * k) l₀) (sym (runs_more f c)) in
       let w : length (runs (c + 1) f) ≡ (c + 1) * k =
-      ap length (runs_more f c) ∙ length_append (runs c f) (f c) ∙ ap₂ (λ (a b : ℕ). a + b) r.front (ap length (sym y) ∙ n) ∙ s in
+      ap length (runs_more f c) ∙ length-append (runs c f) (f c) ∙ ap₂ (λ (a b : ℕ). a + b) r.front (ap length (sym y) ∙ n) ∙ s in
       record {
-        long = ap length t ∙ length_append (runs (c + 1) f) (drop ((c + 1) * k) l₀) ∙ omega (arith, w, length-drop ((c + 1) * k) l₀, s);
+        long = ap length t ∙ length-append (runs (c + 1) f) (drop ((c + 1) * k) l₀) ∙ omega (arith, w, length-drop ((c + 1) * k) l₀, s);
         front = w;
         same = t;
       }

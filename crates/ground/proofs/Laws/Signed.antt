@@ -13,7 +13,7 @@ use Rattle.ground.proofs.Laws.Differences.{is_pos, is_sub, is_same, is_mag, rais
 
 -- a signed number read from an array comes through its bits
 pub read : (z : ℤ) {a b : ℕ} → mag z < 32768 → Is (to_z w16 (of_z w16 z)) a b → Is z a b
-read z {a = a} {b = b} h p = subst (λ (y : ℤ). Is y a b) (to_z-of_z (record { sfits = h })) p
+read z {a = a} {b = b} h p = subst (λ (y : ℤ). Is y a b) (to_z-of_z {w = w16} (record { sfits = h })) p
 
 -- v + 32768 is a natural number below 65536, and neither cast nor sum loses a bit of it
 module _ {v : ℤ} (f : SFits w16 v) where

@@ -8,7 +8,7 @@ use native.Mathlib.Nat.{add-zero, zero-add, add-suc, suc-add}
 use native.Mathlib.Numerals.{add-one}
 use native.Mathlib.Omega.{arith}
 use lib.Dec.{eqb, ltb}
-use lib.ListN.{length, take, drop, get_or, set, replicate, length_append, length-drop, length-replicate, get_or-append}
+use lib.ListN.{length, take, drop, get_or, set, replicate, length-append, length-drop, length-replicate, get_or-append}
 use lib.Seq.{length-take-le, drop-cons, drop_at, get_or_at}
 use borrow.Author.Tests.{eq-eqb, ne_eqb, lt-ltb, le-ltb, eqb-true, eqb-false}
 use Rattle.ground.proofs.Laws.Cases.{by_bool}
@@ -175,7 +175,7 @@ places_first src lengths places h F =
 pub length_places : (src lengths : List ℕ) (b : ℕ) → length lengths ≤ 8 → length (places_at src lengths b) ≡ 8
 length_places src lengths b h =
     let n = length lengths in
-    length_append (table n (place_in src lengths b)) (replicate (8 - n) 0)
+    length-append (table n (place_in src lengths b)) (replicate (8 - n) 0)
     ∙ ap₂ (λ (x y : ℕ). x + y) (length_from (place_in src lengths b) n 0) (length-replicate (8 - n) 0) ∙ (omega arith)
 
 place_at : (src lengths : List ℕ) (b c : ℕ) → c < length lengths → get_or (places_at src lengths b) c 0 ≡ place_in src lengths b c
@@ -262,7 +262,7 @@ module _ {src lengths out₀ : List ℕ} {b next : ℕ} {out places : List ℕ} 
             laid_long T.laid,
             ap length text_is,
             ap length (runs_more f c),
-            length_append (runs c f) (f c),
+            length-append (runs c f) (f c),
             runs_under f (c + 1) (length lengths) (omega arith),
           )
 
@@ -338,7 +338,7 @@ module _ {src lengths out₀ : List ℕ} {blocks : ℕ} {out : List ℕ} {t : Pr
         lying = L;
         places = J.places;
         room = omega
-            (arith, J.laid.after, joining_long, ap length (runs_more f b), length_append (runs b f) (f b), runs_under f (b + 1) blocks (omega arith));
+            (arith, J.laid.after, joining_long, ap length (runs_more f b), length-append (runs b f) (f b), runs_under f (b + 1) blocks (omega arith));
       }
 
   pub joining_more : {after : List ℕ} {t' : Progress} → t.block < blocks → t'.block ≡ t.block + 1 → t'.places ≡ places_at src lengths (t.block + 1)
@@ -372,7 +372,7 @@ length_joined n zero r = sym (sum_none (λ c. place_of (r c) 0) n (λ c h. sym (
 length_joined n (suc k) r =
     let p : ℕ → ℕ = λ c. place_of (r c) k in
     let z : ℕ → ℕ = λ c. size_at (drop (place_of (r c) k) (r c)) in
-    length_append (joined n k r) (block_of n r k)
+    length-append (joined n k r) (block_of n r k)
     ∙ ap₂ (λ (x y : ℕ). x + y) (length_joined n k r) (length_block n r k)
     ∙ sum_both p z n
     ∙ sum_same (λ c. p c + z c) (λ c. place_of (r c) (suc k)) n (λ c h. sym (place_more (r c) 0 k) ∙ ap (place_of (r c)) (add-one k))

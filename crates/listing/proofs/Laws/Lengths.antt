@@ -6,7 +6,7 @@ use Prim.Native.Nat.{ℕ, zero, suc, ◌+◌, ◌*◌, ◌≤◌, ◌<◌}
 use native.Mathlib.Omega.{arith}
 use borrow.Author.Tests.{ltb-false}
 use lib.Dec.{ltb}
-use lib.ListN.{length, drop, length_append}
+use lib.ListN.{length, drop, length-append}
 use Rattle.ground.proofs.Laws.Cases.{by_bool}
 use Rattle.ground.specs.Replies.{done, no_data}
 use Rattle.prefix.specs.Sizes.{mode_bytes}
@@ -24,12 +24,12 @@ use Rattle.listing.specs.Listing.{line_of, lines, total_of, most_bytes, listing_
 
 pub length_line : (number reply bytes : ℕ) → length (frame_line number reply bytes) ≡ 7 + (length (decimal reply) + length (decimal bytes))
 unfolding frame_line
-length_line number reply bytes = simp length_append (omega (arith, length_digits 4 number))
+length_line number reply bytes = simp length-append (omega (arith, length_digits 4 number))
 
 pub length_total : (count reply place : ℕ)
     → length (total_line count reply place) ≡ 19 + (length (decimal count) + (length (decimal reply) + length (decimal place)))
 unfolding total_line
-length_total count reply place = simp length_append (omega arith)
+length_total count reply place = simp length-append (omega arith)
 
 -- ---- the lines
 
@@ -40,12 +40,12 @@ line_short number s (refused x) f rest n h =
     omega (arith, length_line number x 0, length_decimal 0 x (omega (arith, f.1)), length_decimal 0 0 (omega arith))
 line_short number s empty f rest n h =
     let l = length_line number no_data 0 in
-    omega (arith, l, length_decimal 1 14 (omega arith), length_decimal 0 0 (omega arith), length_append (frame_line number no_data 0) (rest 1), h 1)
+    omega (arith, l, length_decimal 1 14 (omega arith), length_decimal 0 0 (omega arith), length-append (frame_line number no_data 0) (rest 1), h 1)
 line_short number s (sound mode x) f rest n h =
     let m = mode_bytes mode in
     let l = length_line number done m in
     let d = length_decimal 2 m (omega (arith, (mode_bounds mode f.0).1)) in
-    omega (arith, l, length_decimal 0 0 (omega arith), d, length_append (frame_line number done m) (rest (m + 1)), h (m + 1))
+    omega (arith, l, length_decimal 0 0 (omega arith), d, length-append (frame_line number done m) (rest (m + 1)), h (m + 1))
 
 pub lines_short : (n number : ℕ) (s : List ℕ) → length (lines n number s) ≤ 11 * n
 unfolding lines
@@ -76,7 +76,7 @@ walk_bounded src =
     record {
       few = t.few;
       number = stop_small most_frames t.rest w t.stop;
-      inside = omega (arith, t.place, ap length t.whole, length_append t.front t.rest);
+      inside = omega (arith, t.place, ap length t.whole, length-append t.front t.rest);
     }
 
 pub total_short : (src : List ℕ) → length src ≤ most_bytes → length (total_of (walk most_frames src)) ≤ 30
@@ -99,4 +99,4 @@ listing_short src =
     (λ t. rw t (omega arith))
     (λ t.
     let h = ltb-false most_bytes (length src) t in
-    rw t (omega (arith, length_append (lines most_frames 0 src) (total_of (walk most_frames src)), lines_short most_frames 0 src, total_short src h)))
+    rw t (omega (arith, length-append (lines most_frames 0 src) (total_of (walk most_frames src)), lines_short most_frames 0 src, total_short src h)))

@@ -6,7 +6,7 @@ use Prim.Native.Nat.{ℕ, zero, suc, ◌+◌, ◌-◌, ◌≤◌, ◌<◌}
 use native.Mathlib.Omega.{arith}
 use borrow.Author.Tests.{eq-eqb, ne_eqb, eqb-true, eqb-false}
 use lib.Dec.{eqb}
-use lib.ListN.{length, drop, length_append}
+use lib.ListN.{length, drop, length-append}
 use lib.Seq.{drop-drop}
 use Rattle.ground.proofs.Laws.Cases.{by_bool}
 use Rattle.ground.specs.Replies.{done, too_many, no_data}
@@ -152,12 +152,12 @@ module _ {src out₀ out : List ℕ} {next count place : ℕ} {p : Passing} (T :
   first =
       by_bool (eqb p.bytes 0)
       (λ t. omega (arith, ap length (stopped_left (eqb-true p.bytes 0 t))))
-      (λ t. omega (arith, ap length (passed_left (eqb-false p.bytes 0 t)), length_append line behind))
+      (λ t. omega (arith, ap length (passed_left (eqb-false p.bytes 0 t)), length-append line behind))
 
   -- the line has room
   pub listed_room : room ≤ length out₀ → next + length line ≤ length out
   listed_room q =
-      omega (arith, P.laid.after, laid_long P.laid, first, ap length P.whole, length_append P.text left, lines_short most_frames 0 src)
+      omega (arith, P.laid.after, laid_long P.laid, first, ap length P.whole, length-append P.text left, lines_short most_frames 0 src)
 
   module _ {out' : List ℕ} {next' : ℕ} (m : TextLaid out next line out' next') where
     -- the last step

@@ -7,7 +7,7 @@ use mathlib.Core.List.{List, [], ◌++◌}
 use Prim.Native.Nat.{ℕ, ◌+◌, ◌-◌, ◌*◌, ◌≤◌, ◌<◌}
 use native.Mathlib.Omega.{arith}
 use lib.Dec.{T, eqb, ltb, leb, eqb→eq}
-use lib.ListN.{length, get_or, take, length_append, get_or-eq_default}
+use lib.ListN.{length, get_or, take, length-append, get_or-eq_default}
 use lib.Seq.{take-append_seam}
 use borrow.Author.Tests.{lt-ltb, le-ltb, ltb-true, ltb-false, leb-true, leb-false}
 use Rattle.ground.proofs.Laws.Cases.{and_T, by_bool}
@@ -92,7 +92,7 @@ shape_reads b l =
     let (v, r, e, m) = sure16 b (omega arith) in
     let (q, f) = word_unword (prefix table16 []) b v r e in
     let w = get_or table16 v [] in
-    let n : length b ≡ length w + length r = ap length q ∙ length_append w r in
+    let n : length b ≡ length w + length r = ap length q ∙ length-append w r in
     let B = shape_is_table v (omega (arith, long16)) in
     let o : length r ≡ 7 - length w = omega arith in
     let ev : (word_in (val b)).number ≡ v = ap (λ (x : List Bool). (word_in (val x)).number) q ∙ B.number r o in

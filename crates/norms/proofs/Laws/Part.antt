@@ -6,7 +6,7 @@ use mathlib.Core.List.{List, [], ◌∷◌, map}
 use Prim.Native.Nat.{ℕ, zero, suc, ◌+◌, ◌*◌, ◌≤◌, ◌<◌}
 use native.Mathlib.Omega.{arith}
 use lib.Dec.{T, leb, leb→le}
-use lib.ListN.{length, get_or, drop, replicate, length_append}
+use lib.ListN.{length, get_or, drop, replicate, length-append}
 use Rattle.ground.proofs.Laws.Cases.{and_T}
 use Rattle.ground.proofs.Laws.PrintedTables.{every, every_at}
 use Rattle.bits.specs.Bits.{word, laid}
@@ -62,7 +62,7 @@ module _ (c : Coding) (least most : ℕ) (each : (v : ℕ) → Fit c v → (leas
   run_long (suc n) (v ∷ vs) f =
       let e = each v f.0 in
       let r = run_long n vs f.1 in
-      let l = length_append (word_of c v) (write_all (replicate n c) vs) in
+      let l = length-append (word_of c v) (write_all (replicate n c) vs) in
       (omega (arith, e.0, r.0), omega (arith, e.1, r.1))
 
 -- the words of Table 16 have 3 to 7 bits
@@ -85,7 +85,7 @@ word5 v = rw (coding_fixed 5 (omega arith), word_fixed 5 v) (length_word 5 v)
 pub bits_split : (flag_n : Bool) (w : ℕ) (ws : List ℕ)
     → length (write_all (map coding (norm_kinds flag_n)) (w ∷ ws)) ≡ 5 + length (write_all (map coding (replicate 43 (cond flag_n 20 5))) ws)
 unfolding norm_kinds write_all
-bits_split flag_n w ws = omega (arith, length_append (word_of (coding 5) w) (write_all (map coding (replicate 43 (cond flag_n 20 5))) ws), word5 w)
+bits_split flag_n w ws = omega (arith, length-append (word_of (coding 5) w) (write_all (map coding (replicate 43 (cond flag_n 20 5))) ws), word5 w)
 
 -- with FlagN 0 each number has five bits
 fives_long : (n : ℕ) (vs : List ℕ) → length vs ≡ n → length (write_all (map coding (replicate n 5)) vs) ≡ 5 * n
@@ -94,7 +94,7 @@ fives_long zero [] l = omega arith
 fives_long zero (v ∷ vs) l = absurd (omega arith)
 fives_long (suc n) [] l = absurd (omega arith)
 fives_long (suc n) (v ∷ vs) l =
-    omega (arith, length_append (word_of (coding 5) v) (write_all (map coding (replicate n 5)) vs), word5 v, fives_long n vs (omega arith))
+    omega (arith, length-append (word_of (coding 5) v) (write_all (map coding (replicate n 5)) vs), word5 v, fives_long n vs (omega arith))
 
 plain_long : (ws : List ℕ) → length ws ≡ 44 → length (write_all (map coding (norm_kinds false)) ws) ≡ 220
 unfolding norm_kinds

@@ -7,7 +7,7 @@ use Prim.Native.Nat.{ℕ, suc, ◌+◌, ◌-◌, ◌*◌, ◌≤◌, ◌<◌, ma
 use native.Mathlib.Omega.{arith}
 use native.Mathlib.Numerals.{add-one}
 use lib.Dec.{leb, ltb}
-use lib.ListN.{length, get_or, drop, replicate, length_append, drop_of_length-le}
+use lib.ListN.{length, get_or, drop, replicate, length-append, drop_of_length-le}
 use lib.Seq.{drop-cons}
 use borrow.Author.Tests.{lt-leb, le-leb, leb-true, leb-false, ltb-true, ltb-false}
 use Rattle.ground.proofs.Laws.Cases.{by_bool}
@@ -36,7 +36,7 @@ words_more : (x y : ℕ) (ys : List ℕ) → words_from x (y ∷ ys) ≡ length 
 unfolding words_from numbers write_all
 words_more x y ys =
     let w = word_of (coding 20) (y + 15 - x) in
-    length_append w (write_all (map coding (replicate (length ys) 20)) (numbers y ys))
+    length-append w (write_all (map coding (replicate (length ys) 20)) (numbers y ys))
     ∙ ap (λ (l : List Bool). length l + words_from y ys) (norm_word (y + 15 - x))
 
 words_none : (x : ℕ) (ys : List ℕ) → length ys ≡ 0 → words_from x ys ≡ 0

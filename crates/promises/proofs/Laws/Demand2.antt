@@ -7,7 +7,7 @@ use Prim.Native.Nat.{ℕ, ◌+◌, ◌-◌, ◌*◌, ◌≤◌, ◌<◌, zero-le
 use native.Mathlib.Numerals.{add-one}
 use native.Mathlib.Omega.{arith}
 use lib.IntN.{ℤ}
-use lib.ListN.{length, get_or, take, drop, length_append}
+use lib.ListN.{length, get_or, take, drop, length-append}
 use lib.Seq.{take_at}
 use Rattle.ground.specs.Replies.{done, no_word, past_budget}
 use Rattle.bits.specs.Bits.{view, bits_of, bytes_of, Bytes}
@@ -130,7 +130,7 @@ read_exactly mode x f rest codes tail hm hx k l hc ht =
     read_some src (omega arith) ∙ r_ignored 0 (mode + 8) x 0 (omega arith) hx (omega arith)
     ∙ sym (read_some (byte_with 0 (mode + 8) 0 ∷ (b ++ rest)) (omega arith)) ∙ read_written mode (b ++ rest) hm in
     let lb = length_bytes_lem n w in
-    let s : n < length src = omega (arith, length_append b rest, lb) in
+    let s : n < length src = omega (arith, length-append b rest, lb) in
     let e : mode + 8 - 8 ≡ mode = omega arith in
     read_started src codes tail hc ht (Data (record { 0 = mode + 8 })) (sym p)
     ∙ data_whole src (record { 0 = mode + 8 }) n (sym (Rattle.prefix.proofs.Laws.Sizes.length_bytes_lem mode hm)) s

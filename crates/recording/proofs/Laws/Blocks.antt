@@ -8,7 +8,7 @@ use Prim.Native.Nat.{ℕ, zero, suc, ◌+◌, ◌-◌, ◌≤◌, ◌<◌}
 use native.Mathlib.Nat.{add-zero}
 use native.Mathlib.Omega.{arith}
 use lib.Dec.{eqb, ltb}
-use lib.ListN.{length, take, drop, length_append, length-drop}
+use lib.ListN.{length, take, drop, length-append, length-drop}
 use lib.Seq.{drop_at, take-add}
 use borrow.Author.Tests.{eqb-false, ltb-true, ne_eqb, lt-ltb}
 use Rattle.ground.proofs.Laws.Cases.{by_bool}
@@ -41,7 +41,7 @@ block_front rest (more {k} {f} {s} a fs) =
     let q : block_step k (drop (length f) (f ++ (s ++ rest))) ≡ passes (length s) = ap (block_step k) (drop_at f (s ++ rest) (length f) refl)
     ∙ block_front rest fs in
     let m : 1 + k ≡ suc k = omega arith in
-    ap₂ block_step m (append_assoc f s rest) ∙ block_passed k (f ++ (s ++ rest)) (length f) e (passes (length s)) q ∙ ap passes (sym (length_append f s))
+    ap₂ block_step m (append_assoc f s rest) ∙ block_passed k (f ++ (s ++ rest)) (length f) e (passes (length s)) q ∙ ap passes (sym (length-append f s))
 
 -- frames of a block, one frame more in front
 one_more : (n : ℕ) (s : List ℕ) (j i : ℕ) → Stored (take j s) × (j ≤ length s) → Frames n (take i (drop j s)) × (i ≤ length (drop j s))
@@ -110,7 +110,7 @@ block_stops n s x e = (block_low n s x e).0
 
 frames_some : {n : ℕ} {f : List ℕ} → 1 ≤ n → Frames n f → 0 < length f
 frames_some h none = absurd (omega arith)
-frames_some h (more {k} {f} {s} a fs) = omega (arith, frame_unit.some f a, length_append f s)
+frames_some h (more {k} {f} {s} a fs) = omega (arith, frame_unit.some f a, length-append f s)
 
 pub block_unit : (n : ℕ) → 1 ≤ n → LawfulUnit (block_step n) (Frames n)
 block_unit n h =

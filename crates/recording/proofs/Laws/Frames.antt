@@ -5,7 +5,7 @@ use mathlib.Core.List.{List, [], ◌∷◌, ◌++◌}
 use Prim.Native.Nat.{ℕ, zero, suc, ◌+◌, ◌-◌, ◌*◌, ◌≤◌, ◌<◌}
 use native.Mathlib.Omega.{arith}
 use lib.Dec.{ltb}
-use lib.ListN.{length, get_or, take, drop, length_append, length-drop, take-append-drop}
+use lib.ListN.{length, get_or, take, drop, length-append, length-drop, take-append-drop}
 use lib.Seq.{take-append-le, drop-append-le, length-take-le}
 use borrow.Author.Tests.{ltb-true, ltb-false}
 use Rattle.ground.proofs.Laws.Cases.{by_bool}
@@ -100,7 +100,7 @@ front_data f rest l h =
     let n = length_bytes l.0 in
     let d = drop-append-le 1 f rest (omega arith) in
     let t = take-append-le n (drop 1 f) rest (omega (arith, length-drop 1 f)) in
-    data_whole (f ++ rest) l n refl (omega (arith, length_append f rest))
+    data_whole (f ++ rest) l n refl (omega (arith, length-append f rest))
     ∙ ap (read_body (l.0 - 8)) (ap (take n) d ∙ t)
     ∙ sym (data_whole f l n refl h)
 

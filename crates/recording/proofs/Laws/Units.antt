@@ -4,7 +4,7 @@ use mathlib.Core.Path.{◌≡◌, refl, sym, ap, ap₂, ◌∙◌, subst}
 use mathlib.Core.List.{List, [], ◌∷◌, ◌++◌, append_assoc}
 use Prim.Native.Nat.{ℕ, zero, suc, ◌+◌, ◌-◌, ◌≤◌, ◌<◌}
 use native.Mathlib.Omega.{arith}
-use lib.ListN.{length, take, drop, length_append, take-append-drop}
+use lib.ListN.{length, take, drop, length-append, take-append-drop}
 use lib.Seq.{drop_at, length-take-le}
 use Rattle.ground.specs.Replies.{done, too_many}
 use Rattle.recording.specs.Walk.{Step, stops, passes, stopped, ahead, walk_over}
@@ -39,7 +39,7 @@ pub record WalkSays (unit : List ℕ → Step) (Whole : List ℕ → Type 0) (n 
 module _ {unit : List ℕ → Step} {Whole : List ℕ → Type 0} (L : LawfulUnit unit Whole) where
   one_unit : (n : ℕ) (f rest : List ℕ) → Whole f → walk_over unit (suc n) (f ++ rest) ≡ ahead 1 (length f) (walk_over unit n rest)
   one_unit n f rest w =
-      walk_passes unit n (f ++ rest) (omega (arith, length_append f rest, L.some f w)) (length f) (L.front f rest w)
+      walk_passes unit n (f ++ rest) (omega (arith, length-append f rest, L.some f w)) (length f) (L.front f rest w)
       ∙ ap (λ (s : List ℕ). ahead 1 (length f) (walk_over unit n s)) (drop_at f rest (length f) refl)
 
   -- units in front of a rest are counted and passed
@@ -52,7 +52,7 @@ module _ {unit : List ℕ → Step} {Whole : List ℕ → Type 0} (L : LawfulUni
       ap (walk_over unit (suc n)) (append_assoc f s rest) ∙ one_unit n f (s ++ rest) a
       ∙ ap (ahead 1 (length f)) (walk_units n rest fs (omega arith))
       ∙ ahead_ahead 1 (length f) k (length s) (walk_over unit (n - k) rest)
-      ∙ ap₂ (λ (j i : ℕ). ahead (1 + k) j (walk_over unit i rest)) (sym (length_append f s)) (sym e)
+      ∙ ap₂ (λ (j i : ℕ). ahead (1 + k) j (walk_over unit i rest)) (sym (length-append f s)) (sym e)
 
   at_start : (n : ℕ) (src : List ℕ) (x : ℕ) → Stop unit n src (stopped x) → WalkSays unit Whole n src (stopped x)
   at_start n src x s = record { front = []; rest = src; whole = refl; units = none; place = refl; few = omega arith; stop = s }
@@ -70,7 +70,7 @@ module _ {unit : List ℕ → Step} {Whole : List ℕ → Type 0} (L : LawfulUni
         rest = t.rest;
         whole = sym (take-append-drop k src) ∙ ap (λ (d : List ℕ). take k src ++ d) t.whole ∙ sym (append_assoc (take k src) t.front t.rest);
         units = more a t.units;
-        place = omega (arith, length_append (take k src) t.front, t.place, length-take-le k src l);
+        place = omega (arith, length-append (take k src) t.front, t.place, length-take-le k src l);
         few = omega (arith, t.few);
         stop = later n t.rest k w t.stop;
       }

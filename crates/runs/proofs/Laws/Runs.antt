@@ -6,7 +6,7 @@ use mathlib.Core.List.{List, [], ◌∷◌, ◌++◌, append_assoc, append-nil, 
 use Prim.Native.Nat.{ℕ, suc, ◌+◌, ◌-◌, ◌≤◌, ◌<◌}
 use native.Mathlib.Omega.{arith}
 use native.Mathlib.Numerals.{add-one}
-use lib.ListN.{length, take, drop, get_or, set, length_append, length-set, length-map, take-append-drop, drop_of_length-le}
+use lib.ListN.{length, take, drop, get_or, set, length-append, length-set, length-map, take-append-drop, drop_of_length-le}
 use lib.Seq.{drop-cons, take-suc-set, drop-set-lt, drop-append_seam, drop-drop, length-take-le}
 use Rattle.bits.specs.Bits.{view}
 use Rattle.bits.proofs.Laws.Views.{length_view, drop_view}
@@ -41,7 +41,7 @@ next_left : (c : Coding) (s : List ℕ) (p end v next : ℕ) (r : List Bool) →
 next_left c s p end v next r e q =
     let w = word_of c v in
     let b = (word_unword c (view s p (end - p)) v r e).0 in
-    let l : end - p ≡ length w + length r = sym (length_view s p (end - p)) ∙ ap length b ∙ length_append w r in
+    let l : end - p ≡ length w + length r = sym (length_view s p (end - p)) ∙ ap length b ∙ length-append w r in
     let n : p + length w ≡ next = omega arith in
     let m : end - p - length w ≡ end - next = omega arith in (
       sym (drop-append_seam w r) ∙ ap (drop (length w)) (sym b) ∙ drop_view s p (length w) (end - p) (omega arith)
@@ -186,7 +186,7 @@ module _ (s : List ℕ) (at end : ℕ) (kinds out : List ℕ) where
       let w = written_read (map coding kinds) (view s at (end - at)) vs r e in
       let b = write_all (map coding kinds) vs in
       let q : p ≡ at + (end - at - length r) = cc in
-      let m : end - at ≡ length b + length r = sym (length_view s at (end - at)) ∙ ap length w.0 ∙ length_append b r in
+      let m : end - at ≡ length b + length r = sym (length_view s at (end - at)) ∙ ap length w.0 ∙ length-append b r in
       let n : at + length b ≡ p = omega arith in
       let k : end - at - length b ≡ end - p = omega arith in (
         vs,

@@ -6,7 +6,7 @@ use mathlib.Core.List.{List, [], ◌∷◌, ◌++◌, append_assoc, append-nil, 
 use Prim.Native.Nat.{ℕ, suc, ◌+◌, ◌-◌, ◌*◌, ◌≤◌, ◌<◌}
 use native.Mathlib.Numerals.{add-one}
 use native.Mathlib.Omega.{arith}
-use lib.ListN.{length, drop, get_or, length_append, drop_of_length-le}
+use lib.ListN.{length, drop, get_or, length-append, drop_of_length-le}
 use lib.Seq.{drop-cons}
 use Rattle.bits.specs.Bits.{laid, Bytes}
 use Rattle.bits.proofs.Laws.LaidBits.{laid_append, laid_none, length_laid}
@@ -55,7 +55,7 @@ module _ {s₀ : List ℕ} {at : ℕ} {kinds numbers : List ℕ} where
               ∙ ap (λ (k : ℕ). b ++ w ++ run_bits (drop k kinds) (drop k numbers)) (sym (add-one i));
           long = ap length x ∙ length_laid s (at + n) w ∙ I.long;
           written = x ∙ ap₂ (λ (y : List ℕ) (k : ℕ). laid y (at + k) w) I.written I.many ∙ laid_append s₀ at b w;
-          many = omega (arith, I.many, length_append b w);
+          many = omega (arith, I.many, length-append b w);
         }
 
     pub finished : length kinds ≤ i → (n ≡ length (run_bits kinds numbers)) × (s ≡ laid s₀ at (run_bits kinds numbers))
@@ -89,7 +89,7 @@ module _ {kinds numbers : List ℕ} where
           upto = omega arith;
           few = omega (arith, I.few, word_short _ _ _ e);
           said =
-              omega (arith, I.said, ap length next, length_append w r, ap (λ (k : ℕ). length (run_bits (drop k kinds) (drop k numbers))) (add-one i));
+              omega (arith, I.said, ap length next, length-append w r, ap (λ (k : ℕ). length (run_bits (drop k kinds) (drop k numbers))) (add-one i));
         }
 
     pub counted : length kinds ≤ i → n ≡ length (run_bits kinds numbers)
@@ -102,4 +102,4 @@ unfolding write_all
 run_few [] numbers = omega arith
 run_few (k ∷ kinds) [] = omega arith
 run_few (k ∷ kinds) (v ∷ numbers) =
-    omega (arith, length_append (word_of (coding k) v) (run_bits kinds numbers), word_few k v, run_few kinds numbers)
+    omega (arith, length-append (word_of (coding k) v) (run_bits kinds numbers), word_few k v, run_few kinds numbers)

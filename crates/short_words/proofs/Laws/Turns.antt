@@ -6,7 +6,7 @@ use mathlib.Core.List.{List, ◌++◌}
 use Prim.Native.Nat.{ℕ, ◌+◌, ◌≤◌, ◌<◌}
 use native.Mathlib.Omega.{arith}
 use lib.Dec.{T, ltb}
-use lib.ListN.{length, get_or, set, length_append}
+use lib.ListN.{length, get_or, set, length-append}
 use borrow.Author.Tests.{ltb-true}
 use Rattle.ground.proofs.Laws.Cases.{by_bool}
 use Rattle.bits.specs.Bits.{laid}
@@ -86,11 +86,11 @@ lay_two {s₀} {at} {kinds} {numbers} {s} {t} {n} {m} {i} I h l e x =
     let A = lay.turn I (omega arith) l refl refl in
     let p : at + n + length w ≡ at + (n + length w) = omega arith in
     let B = lay.turn A h l refl (x ∙ sym (laid_append s (at + n) w u) ∙ ap (λ (k : ℕ). laid (laid s (at + n) w) k u) p) in
-    let many : n + length w + length u ≡ n + m = omega (arith, length_append w u) in
+    let many : n + length w + length u ≡ n + m = omega (arith, length-append w u) in
     let next : i + 1 + 1 ≡ i + 2 = omega arith in
     subst (λ (k : ℕ). lay.Writing s₀ at kinds numbers t k (i + 2)) many
     (subst (λ (k : ℕ). lay.Writing s₀ at kinds numbers t (n + length w + length u) k) next B)
 
 -- two words have at most 32 bits
 pub pair_short : (j a k b m : ℕ) → m ≡ length (word_of (coding j) a ++ word_of (coding k) b) → m ≤ 32
-pair_short j a k b m e = omega (arith, length_append (word_of (coding j) a) (word_of (coding k) b), word_few j a, word_few k b)
+pair_short j a k b m e = omega (arith, length-append (word_of (coding j) a) (word_of (coding k) b), word_few j a, word_few k b)

@@ -6,7 +6,7 @@ use mathlib.Core.List.{List, ◌++◌}
 use Prim.Native.Nat.{ℕ, ◌+◌, ◌*◌, ◌%◌, ◌^◌, ◌≤◌, ◌<◌, min}
 use native.Mathlib.Nat.{mod-lt}
 use native.Mathlib.Omega.{arith}
-use lib.ListN.{length, length_append}
+use lib.ListN.{length, length-append}
 use lib.Pow.{pow_pos, pow_mono, shl_lt, shl_exact}
 use Rattle.bits.specs.Bits.{word, laid}
 use Rattle.bits.proofs.Laws.NumbersAsBits.{word_two, length_word, shifted_one}
@@ -24,7 +24,7 @@ module _ {n v m w : ℕ} {a b : List Bool} (x : (word n v ≡ a) × (n ≤ 8) ×
       rw made (omega (arith, shl_lt {a = v} 16 m x.2, mod-lt w (pow_pos m)))
 
   pub pair_long : n + m ≡ length (a ++ b)
-  pair_long = sym (length_append a b ∙ ap₂ ◌+◌ (ap length (sym x.0) ∙ length_word n v) (ap length (sym y.0) ∙ length_word m w))
+  pair_long = sym (length-append a b ∙ ap₂ ◌+◌ (ap length (sym x.0) ∙ length_word n v) (ap length (sym y.0) ∙ length_word m w))
 
   pub pair_laid : (s t : List ℕ) (at : ℕ) → t ≡ laid s at (word (min (n + m) 16) (v * 2 ^ m % 2 ^ 64 + w % (1 * 2 ^ m % 2 ^ 64)))
       → t ≡ laid s at (a ++ b)

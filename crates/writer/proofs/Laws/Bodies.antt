@@ -6,7 +6,7 @@ use mathlib.Core.List.{List, [], ◌∷◌, ◌++◌, append_assoc, map}
 use Prim.Native.Nat.{ℕ, ◌+◌, ◌*◌, ◌^◌, ◌<◌, min}
 use native.Mathlib.Omega.{arith}
 use borrow.Author.Tests.{eqb-true, ltb-true, ltb-false, not-false, eq-eqb, ne_eqb}
-use lib.ListN.{length, take, drop, set, length_append}
+use lib.ListN.{length, take, drop, set, length-append}
 use Rattle.ground.proofs.Laws.Refusals.{by_rows, first_none, neither_first}
 use Rattle.ground.specs.Replies.{done}
 use Rattle.bits.specs.Bits.{num, word, view, laid, bytes_of, Bytes}
@@ -109,13 +109,13 @@ module _ (r : Record) (vs ts s₀ s₁ s₂ s₃ s₄ s₅ : List ℕ) (f n m k 
   three : s₃ ≡ laid s₀ 8 ((a ++ b) ++ c)
   unfolding b c
   three =
-      let p : 12 + n ≡ 8 + length (a ++ b) = omega (arith, length_append a b, four, en) in
+      let p : 12 + n ≡ 8 + length (a ++ b) = omega (arith, length-append a b, four, en) in
       e₃ ∙ ap₂ (λ (x : List ℕ) (i : ℕ). laid x i c) two p ∙ laid_append s₀ 8 (a ++ b) c
 
   four_parts : s₄ ≡ laid s₀ 8 (((a ++ b) ++ c) ++ d)
   unfolding b c d
   four_parts =
-      let p : 12 + n + m ≡ 8 + length ((a ++ b) ++ c) = omega (arith, length_append (a ++ b) c, length_append a b, four, en, em) in
+      let p : 12 + n + m ≡ 8 + length ((a ++ b) ++ c) = omega (arith, length-append (a ++ b) c, length-append a b, four, en, em) in
       let q : min k 16 ≡ noise_bits r.transient = omega (arith, ek, noise_le r.transient) in
       e₄ ∙ ap (laid s₃ (12 + n + m)) (ap₂ word q ez) ∙ ap₂ (λ (x : List ℕ) (i : ℕ). laid x i d) three p ∙ laid_append s₀ 8 ((a ++ b) ++ c) d
 
@@ -125,9 +125,9 @@ module _ (r : Record) (vs ts s₀ s₁ s₂ s₃ s₄ s₅ : List ℕ) (f n m k 
       let p : 12 + n + m + k ≡ 8 + length (((a ++ b) ++ c) ++ d) =
       omega (
         arith,
-        length_append ((a ++ b) ++ c) d,
-        length_append (a ++ b) c,
-        length_append a b,
+        length-append ((a ++ b) ++ c) d,
+        length-append (a ++ b) c,
+        length-append a b,
         four,
         en,
         em,

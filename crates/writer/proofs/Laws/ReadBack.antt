@@ -6,7 +6,7 @@ use mathlib.Core.List.{List, [], ◌∷◌, ◌++◌, append-nil}
 use Prim.Native.Nat.{ℕ, ◌+◌, ◌-◌, ◌*◌, ◌≤◌, ◌<◌, zero-le}
 use native.Mathlib.Nat.{zero-add}
 use native.Mathlib.Omega.{arith}
-use lib.ListN.{length, take, drop, replicate, length_append, take-append-drop}
+use lib.ListN.{length, take, drop, replicate, length-append, take-append-drop}
 use lib.Seq.{take_at, length-take-le}
 use borrow.Author.Tests.{lt-ltb, le-ltb}
 use Rattle.ground.specs.Replies.{done}
@@ -78,7 +78,7 @@ module _ (r : Record) (cs ts : List ℕ) (room : ℕ) (l : length r.norms ≡ 44
       let b = bytes_of n ((frame (total r)).write (frame_of r cs ts)) in
       let src = byte_with 0 (m + 8) 0 ∷ (b ++ rest) in
       let lb = length_bytes_lem n ((frame (total r)).write (frame_of r cs ts)) in
-      let s : n < length src = omega (arith, length_append b rest, lb) in
+      let s : n < length src = omega (arith, length-append b rest, lb) in
       let e : m + 8 - 8 ≡ m = omega arith in
       rw (le-ltb codes 800 hc, le-ltb tail 320 ht) (ap (λ (p : Prefix). started p src) (read_written m (b ++ rest) hm)
       ∙ rw (Rattle.prefix.proofs.Laws.Sizes.length_bytes_lem m hm, lt-ltb n (length src) s) (ap₂ read_body e (take_at b rest n lb) ∙ body_back))

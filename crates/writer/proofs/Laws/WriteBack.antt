@@ -7,7 +7,7 @@ use Prim.Native.Nat.{ℕ, zero, suc, ◌+◌, ◌-◌, ◌*◌, ◌^◌, ◌≤�
 use native.Mathlib.Nat.{zero-add}
 use native.Mathlib.Omega.{arith}
 use lib.Dec.{ltb}
-use lib.ListN.{length, get_or, take, drop, replicate, length_append, length-map, length-replicate}
+use lib.ListN.{length, get_or, take, drop, replicate, length-append, length-map, length-replicate}
 use lib.Seq.{take_at}
 use borrow.Author.Tests.{lt-ltb, eq-eqb, ltb-true, ltb-false}
 use Rattle.ground.proofs.Laws.Cases.{by_bool}
@@ -130,8 +130,8 @@ module _ (b : List Bool) (rest : List ℕ) (l : length b ≤ 2560) where
   tail_whole =
       let w = b ++ replicate (2560 - length b) false in
       let a = bytes_of 320 w in
-      let k : length w ≡ 2560 = omega (arith, length_append b (replicate (2560 - length b) false), length-replicate (2560 - length b) false) in
-      view_part (a ++ rest) 0 2560 (omega (arith, length_append a rest, length_bytes_lem 320 w)) ∙ ap (take 2560) (bits_append a rest)
+      let k : length w ≡ 2560 = omega (arith, length-append b (replicate (2560 - length b) false), length-replicate (2560 - length b) false) in
+      view_part (a ++ rest) 0 2560 (omega (arith, length-append a rest, length_bytes_lem 320 w)) ∙ ap (take 2560) (bits_append a rest)
       ∙ take_at (bits_of a) (bits_of rest) 2560 (omega (arith, length_bits a, length_bytes_lem 320 w)) ∙ bits_bytes 320 w k
 
   tail_front : view (tail_bytes b ++ rest) 0 (length b) ≡ b
@@ -144,7 +144,7 @@ module _ (b : List Bool) (rest : List ℕ) (l : length b ≤ 2560) where
 
   length_tail : length (tail_bytes b ++ rest) ≡ 320 + length rest
   unfolding tail_bytes
-  length_tail = let w = b ++ replicate (2560 - length b) false in omega (arith, length_append (bytes_of 320 w) rest, length_bytes_lem 320 w)
+  length_tail = let w = b ++ replicate (2560 - length b) false in omega (arith, length-append (bytes_of 320 w) rest, length_bytes_lem 320 w)
 
 bytes_body : (n : ℕ) (src : List ℕ) → Bytes src → Bytes (body_of n src)
 bytes_body n src h = bytes_take n (drop 1 src) (bytes_drop 1 src h)
@@ -214,7 +214,7 @@ module _ (mode : ℕ) (a b c d : Bool) (ns vs : List ℕ) (z : ℕ) (tb : List B
         arith,
         frame_bits t x ok,
         ap length e,
-        length_append ((frame t).write x) [],
+        length-append ((frame t).write x) [],
         length_bits body,
         length_body src (mode_bytes mode) S.long,
         noise_le a,
@@ -234,7 +234,7 @@ module _ (mode : ℕ) (a b c d : Bool) (ns vs : List ℕ) (z : ℕ) (tb : List B
           rooms =
               record {
                 mode = omega (arith, S.low);
-                codes = omega (arith, length_append vs (drop 800 codes), many);
+                codes = omega (arith, length-append vs (drop 800 codes), many);
                 tail = omega (arith, length_tail tb (drop 320 tail) few);
                 out = h;
                 quiet = fit_quiet a z ok_noise;
