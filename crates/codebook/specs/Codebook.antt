@@ -6,7 +6,7 @@ use Rattle.ground.specs.Replies.{done, out_of_range}
 use Rattle.points.specs.Answers.{eq_z, no_point}
 use Rattle.points.specs.declared.Point.{Point}
 use Rattle.codebook.specs.declared.Row.{Row}
-use Rattle.codebook.specs.Table18.{printed, _2, _1, +0, +1, +2}
+use Rattle.codebook.specs.Table18.{printed, -2, -1, +0, +1, +2}
 
 -- ---- the classes
 
@@ -44,15 +44,15 @@ vectors c = arranged 8 c.lo c.hi c.los c.zeros c.his
 -- "Rows 0–7: one −2. 8–15: one 2. 16–43: two −2. 44–99: a 2 and a −2. 100–127: two 2. 128–155, 156–225 …: ±1 with two, four … −1"
 abbrev pub classes : List Class
 classes =
-    class 0 _2 +2 1 7 0 ∷ class 8 _2 +2 0 7 1 ∷ class 16 _2 +2 2 6 0 ∷ class 44 _2 +2 1 6 1 ∷ class 100 _2 +2 0 6 2 ∷ class 128 _1 +1 2 0 6 ∷
-    class 156 _1 +1 4 0 4 ∷ []
+    class 0 -2 +2 1 7 0 ∷ class 8 -2 +2 0 7 1 ∷ class 16 -2 +2 2 6 0 ∷ class 44 -2 +2 1 6 1 ∷ class 100 -2 +2 0 6 2 ∷ class 128 -1 +1 2 0 6 ∷
+    class 156 -1 +1 4 0 4 ∷ []
 
 -- "226–253: … six −1; 254 all −1; 255 all 1"
 abbrev pub six : Class
-six = class 226 _1 +1 6 0 2
+six = class 226 -1 +1 6 0 2
 
 abbrev pub ends : List Class
-ends = class 254 _1 +1 8 0 0 ∷ class 255 _1 +1 0 0 8 ∷ []
+ends = class 254 -1 +1 8 0 0 ∷ class 255 -1 +1 0 0 8 ∷ []
 
 -- ---- the repair
 
@@ -113,7 +113,7 @@ each (c ∷ cs) = repaired c ++ each cs
 
 -- 1 at places i and j, −1 elsewhere
 abbrev pub pair : ℕ → ℕ → List ℤ
-pair i j = table 8 (λ (k : ℕ). cond (eqb k i || eqb k j) +1 _1)
+pair i j = table 8 (λ (k : ℕ). cond (eqb k i || eqb k j) +1 -1)
 
 abbrev pub join : List (List (List ℤ)) → List (List ℤ)
 join [] = []

@@ -3,7 +3,7 @@
 -- Assumes nothing.
 use Rattle.std.specs.Prelude.{◌≡◌, Bool, cond, List, ℕ, zero, suc, ◌*◌, ◌^◌, ◌<◌, ◌≤◌, eqb, get_or, ℤ, pos, negsuc}
 use Rattle.ground.specs.Sums.{sum_to}
-use Rattle.codebook.specs.Table18.{+0, +1, +2, _1, _2}
+use Rattle.codebook.specs.Table18.{+0, +1, +2, -1, -2}
 use Rattle.codebook.specs.Codebook.{row}
 
 -- what a number adds to the code, times 2 ^ its place
@@ -17,7 +17,7 @@ code v = sum_to (λ (i : ℕ). weight (get_or v i (pos 0)) * 2 ^ i) 8
 
 -- the number that a place of a row has, from its two digits: of ±2 in the first half of the book, of ±1 in the second
 abbrev pub entry : Bool → Bool → Bool → ℤ
-entry twos plus minus = cond plus (cond twos +2 +1) (cond minus (cond twos _2 _1) +0)
+entry twos plus minus = cond plus (cond twos +2 +1) (cond minus (cond twos -2 -1) +0)
 
 -- the rows from `from` on and below `to`
 pub record Span : Type 0 where

@@ -75,9 +75,9 @@ fn entry_of(two: bool, plus: bool, minus: bool) -> i16
     }
     if minus {
         if two {
-            return _2;
+            return -2;
         }
-        return _1;
+        return -1;
     }
     0
 }
