@@ -6,7 +6,14 @@
 ghost use Rattle.std.specs.Prelude.{◌≡◌, length};
 ghost use Rattle.lister.specs.Inner.{told, Within};
 
-use libc::{STDERR_FILENO, STDIN_FILENO, STDOUT_FILENO};
+use std::env::FillError;
+use std::io::Read;
+use std::rt::{Env, Stdin};
+
+// The streams by their numbers.
+const STDOUT_FILENO: i32 = 1;
+
+const STDERR_FILENO: i32 = 2;
 
 // What a read gave: so many bytes, none at the end of the input; or that it failed.
 #[derive(Drop)]
@@ -16,6 +23,7 @@ enum Input {
 }
 
 // What the answer of a read into the part says.
+#[tactic(auto, using(crate::proofs::Laws::Told::told_negative, crate::proofs::Laws::Told::told_counted))]
 fn told(answer: isize, part: &[u8]) -> Input
     ensures { result ≡ told answer (length part.now) }
 {
@@ -25,21 +33,29 @@ fn told(answer: isize, part: &[u8]) -> Input
     Input::Bytes(io::count(answer, part))
 }
 
+// The answer of one read into the part: how many bytes it gave, or -1 where it failed.
+fn read(stdin: &mut Stdin, part: &mut [u8]) -> isize {
+    match stdin.read(part) {
+        Ok(n) => n as isize,
+        Err(_) => -1,
+    }
+}
+
 // Reads once into the part.
-fn read_some(part: &mut [u8]) -> Input
+fn read_some(stdin: &mut Stdin, part: &mut [u8]) -> Input
     ensures { Within result part.new }
 {
-    let answer = libc::read(STDIN_FILENO, part);
+    let answer = read(stdin, part);
     told(answer, part)
 }
 
 // Reads until the input ends, the room is full or a read fails. Bytes that came before a failure are not kept.
-fn read_input(room: &mut [u8]) -> Input
+fn read_input(stdin: &mut Stdin, room: &mut [u8]) -> Input
     ensures { Within result room.new }
 {
     let mut at: usize = 0;
     while at < room.len() {
-        let got = read_some(&mut room[at..]);
+        let got = read_some(stdin, &mut room[at..]);
         let Input::Bytes(n) = got else {
             return Input::Failed;
         };
@@ -79,13 +95,23 @@ fn write_listing(input: &[u8]) {
     write_out(&out[..m]);
 }
 
-fn main() {
-    if 1 < os::arg_count() {
+// Whether an argument was given.
+fn has_argument(rt: &impl Env) -> bool {
+    let mut first = [0u8; 1];
+    match rt.arg(1, &mut first) {
+        Err(FillError::NotPresent) => false,
+        _ => true,
+    }
+}
+
+fn main(rt: HostRuntime) {
+    if has_argument(&rt) {
         write_out(b"usage: lister < recording\n");
         return;
     }
     let mut room = input_room();
-    let input = read_input(&mut room);
+    let mut stdin = rt.stdin();
+    let input = read_input(&mut stdin, &mut room);
     let Input::Bytes(n) = input else {
         write_out(b"input not read\n");
         return;

@@ -2,7 +2,9 @@
 use crate::checksums;
 use crate::numbers::{least, of_flag};
 use ground::numbers::{minus, u16_from_u8};
-use libc::STDOUT_FILENO;
+
+// Standard output by its number.
+const STDOUT_FILENO: i32 = 1;
 
 pub fn text(s: &[u8]) {
     io::write_all(STDOUT_FILENO, s);
