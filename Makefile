@@ -6,7 +6,7 @@
 # make install-command    puts it into BINDIR, PREFIX/bin if not given
 # make clean              removes target/make
 #
-# `rt staticlib g719` proves the library before it builds it: 3 to 6 minutes from nothing, half a minute if nothing has changed. So it is called
+# `tools/build g719` proves the library before it builds it: 3 to 6 minutes from nothing, half a minute if nothing has changed. So it is called
 # only if the archive is missing or older than something in crates/. LIBRARY=FILE takes an archive that was built before, and rt is not called.
 
 PREFIX ?= /usr/local
@@ -46,7 +46,7 @@ ifeq ($(origin LIBRARY),file)
 $(LIBRARY): crates.txt $(shell find crates)
 	@command -v rt >/dev/null || { echo 'rt is missing: the Rattle kit brings it; LIBRARY=FILE takes an archive that was built before' >&2; exit 1; }
 	@echo 'the library is proved and built: 3 to 6 minutes from nothing'
-	rt staticlib g719
+	tools/build g719
 endif
 
 $(made):

@@ -31,7 +31,7 @@ fn main() {
         stop(&match named {
             Some(_) => format!("G719_LIB_DIR is set, but there is no {}", archive.display()),
             None => format!(
-                "there is no {}: run `rt staticlib g719` in the repository, \
+                "there is no {}: run `tools/build g719` in the repository, \
                  or set G719_LIB_DIR to the folder that has {ARCHIVE}",
                 archive.display()
             ),

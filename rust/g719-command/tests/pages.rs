@@ -8,13 +8,13 @@ use std::fs::File;
 use std::path::Path;
 use std::process::Command;
 
-/// What the proved lister prints of a file: target/bin/lister, which `rt check lister` builds.
+/// What the proved lister prints of a file: target/bin/lister, which `tools/build lister` builds.
 fn listed(file: &Path) -> String {
     let top = Path::new(env!("CARGO_MANIFEST_DIR")).join("../..");
     let lister = top.join("target/bin/lister");
     assert!(
         lister.is_file(),
-        "target/bin/lister is missing: run rt check lister"
+        "target/bin/lister is missing: run tools/build lister"
     );
     let mut command = Command::new(top.join("tests/start"));
     let output = command
