@@ -1,6 +1,6 @@
 -- The same contest with each score raised by 368, so that nine steps of 32 from a score of −80 stay natural: what the proofs and the code count in.
 -- proofs/Laws/SameContest shows that it is the contest of Rounds.
-use Rattle.std.specs.Prelude.{◌≡◌, Bool, true, false, cond, List, [], ◌∷◌, ℕ, zero, suc, ◌+◌, ◌-◌, ◌*◌, ◌<◌, ◌≤◌, leb, ltb, get_or, set}
+use Rattle.std.specs.Prelude.{◌≡◌, Bool, true, false, cond, List, ℕ, zero, suc, ◌+◌, ◌-◌, ◌*◌, ◌<◌, ◌≤◌, leb, ltb, get_or, set}
 use Rattle.ground.specs.ListsByRule.{table}
 
 pub record Band : Type 0 where

@@ -9,13 +9,8 @@ use native.Mathlib.Nat.{le_refl, div-le_of_le-mul}
 use native.Mathlib.Numerals.{add-one}
 use native.Mathlib.Omega.{arith}
 use borrow.Author.Tests.{lt-ltb, le-ltb}
-use lib.IntN.{ℤ, pos, ◌-ℤ◌}
+use lib.IntN.{ℤ, pos}
 use lib.ListN.{length, get_or, replicate, set}
-use mir.Facts.{sfits_widen, to_z-of_z}
-use mir.Syntax.{w16, w32}
-use mir.Val.{SFits, of_z, to_z}
-use Rattle.ground.specs.Differences.{Is}
-use Rattle.ground.proofs.Laws.Differences.{is_mag, is_pos, is_same, is_sub}
 use Rattle.ground.proofs.Laws.FillingLoops.{Filling, Falling, filling_one, filling_more, filling_done, falling_one, falling_more, falling_done}
 use Rattle.ground.specs.ListsByRule.{table}
 use Rattle.ground.specs.Replies.{done, out_of_range}

@@ -1,0 +1,12 @@
+-- The spots, place by place. Assumes nothing.
+use Prim.Native.Nat.{◌-◌}
+use Rattle.ground.proofs.Laws.FillingLoops.{Filling}
+use Rattle.ground.specs.Sums.{nth}
+use Rattle.levels.specs.Inner.{key_of}
+use Rattle.levels.proofs.keys_of.Given as goal
+
+abbrev pub invariant-loop-i : goal.invariant-loop-i
+invariant-loop-i l = Filling 44 (λ p. key_of l.wide p (nth l.heights p)) l.out l.i
+
+abbrev pub decreases-loop-i : goal.decreases-loop-i
+decreases-loop-i l = 44 - l.i
