@@ -2,16 +2,11 @@
 use native.Mathlib.Omega.{arith}
 use native.Mathlib.Nat.{div-eq_of_lt-le, div-le_self}
 use Prim.Native.Nat.{◌+◌, ◌-◌, ◌/◌}
-use borrow.Author.Rules.{rules}
 use Rattle.lattice.proofs.Laws.Lattice.{near}
-use Rattle.lattice.proofs.round_of.Statement.{statement}
-use Rattle.lattice.proofs.round_of.Tie as tie
+use Rattle.lattice.proofs.round_of.Goals as goal
 
-returns : tie.Need-returns
+pub returns : goal.returns
 returns c =
     let a = c.args in
     let n = near a.r a.x (omega arith) in
     (div-eq_of_lt-le a.r (omega arith) (omega arith), omega (arith, div-le_self (a.x + (a.r / 2 - 1)) a.r))
-
-pub round-of-spec : {M : Type 1} → statement M
-round-of-spec = tie.close (tie.spec (λ c. search rules) (λ c. search rules) (λ c. search rules) returns)
