@@ -1,6 +1,6 @@
 -- At rate 1 the 256 indices and the rows that they name match one to one, and any other point is refused: said of the two calls.
 -- Assumes nothing.
-use Rattle.std.specs.Prelude.{◌≡◌, List, [], ◌∷◌, ℕ, ◌<◌, ◌≤◌, length, ℤ}
+use Rattle.std.specs.Prelude.{◌≡◌, List, ℕ, ◌<◌, ◌≤◌, length, ℤ}
 use Rattle.ground.specs.Replies.{done}
 use Rattle.points.specs.Answers.{no_point}
 use Rattle.codebook.specs.Codebook.{row, row_point, row_index, no_row}

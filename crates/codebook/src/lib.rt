@@ -96,6 +96,7 @@ pub fn row_list(n: usize) -> [i16; 8]
 }
 
 // The point that an index names: 0 and the row; 8 for a rate that is not 1 or an index over 255.
+#[tactic(auto, using(crate::proofs::Laws::OneToOne::row_answered, crate::proofs::Laws::OneToOne::rate_refused, crate::proofs::Laws::OneToOne::index_refused))]
 pub fn codebook_point(rate: u8, index: u16) -> Point
     ensures { result ≡ row_point rate index }
 {

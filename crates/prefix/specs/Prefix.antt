@@ -1,9 +1,8 @@
 -- The prefix byte (A.4.1, Table A.1): its fields, what it says, and the byte of a mode. 01: F before L; R is written 0 and ignored in reading.
 -- Assumes nothing.
-use Rattle.std.specs.Prelude.{cond, List, ◌∷◌, ℕ, ◌+◌, ◌*◌, ◌/◌, ◌%◌, eqb, ltb, length, get_or}
+use Rattle.std.specs.Prelude.{cond, List, ℕ, ◌+◌, ◌*◌, ◌/◌, ◌%◌, eqb, ltb, length, get_or}
 use Rattle.ground.specs.Replies.{done, no_byte, marked, reserved, out_of_range, no_data}
 use Rattle.prefix.specs.Sizes.{Size, no_body, not_given, sized, table_a2, length_bytes}
-use Rattle.prefix.specs.declared.NamedField.TheVariants as named-field
 use Rattle.prefix.specs.declared.Prefix.{Prefix}
 use Rattle.prefix.specs.declared.Prefix.TheVariants.{Data, NoData, NoByte, Marked, Reserved}
 use Rattle.prefix.specs.declared.Byte.{Byte}

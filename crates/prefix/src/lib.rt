@@ -10,11 +10,11 @@ ghost use Rattle.prefix.specs.Prefix.{prefix_of, byte_of};
 use ground::numbers::u16_from_u8;
 
 // A mode, 0 to 19 in Table 22.
-#[derive(Drop)]
+#[derive(Clone, Copy)]
 pub struct Mode(pub u8);
 
 // The field L, 0 to 31 in Table A.2.
-#[derive(Drop)]
+#[derive(Clone, Copy)]
 pub struct Length(pub u8);
 
 // The field L of a mode: none for a number that is no mode.
@@ -66,6 +66,7 @@ impl Mode {
     }
 
     // The field L that names the same size.
+    #[tactic(auto, using(crate::proofs::Laws::Sizes::length_mode, crate::proofs::Laws::Sizes::no_length))]
     pub fn field(self) -> NamedField
         ensures { result ≡ length_of self.0 }
     {
@@ -105,6 +106,7 @@ impl Length {
 }
 
 // What the first byte of a slice says as a prefix: F before L, and R ignored.
+#[tactic(auto, using(crate::proofs::Laws::Prefix::read_none, crate::proofs::Laws::Prefix::read_marked, crate::proofs::Laws::Prefix::read_no_data, crate::proofs::Laws::Prefix::read_low, crate::proofs::Laws::Prefix::read_high, crate::proofs::Laws::Prefix::read_data))]
 pub fn read_prefix(s: &[u8]) -> Prefix
     ensures { result ≡ prefix_of s.now }
 {

@@ -5,7 +5,7 @@ use mathlib.Core.Bool.{Bool, true, false, cond}
 use mathlib.Core.List.{List, [], ◌∷◌}
 use Prim.Native.Nat.{ℕ, zero, suc, ◌<◌, ◌≤◌}
 use native.Mathlib.Omega.{arith}
-use borrow.Author.Tests.{lt-ltb, le-ltb, ltb-true, ne_eqb}
+use borrow.Author.Tests.{eq-eqb, lt-ltb, le-ltb, ltb-true, ne_eqb}
 use lib.Dec.{ltb}
 use lib.ListN.{length, get_or}
 use lib.IntN.{ℤ, pos}
@@ -93,3 +93,14 @@ one_to_one =
 pub foreign : (rate : ℕ) → (rate ≡ 1 → ⊥) → (n : ℕ) (v : List ℤ) → (row_point rate n ≡ no_point) × (row_index rate v ≡ no_row)
 unfolding row_point row_index
 foreign rate h n v = (simp (ne_eqb rate 1 h), simp (ne_eqb rate 1 h))
+
+-- what the code answers: the row of an index, and no point for another rate or an index over 255
+pub row_answered : (rate n : ℕ) → rate ≡ 1 → n < 256 → row_point rate n ≡ record { reply = done; at = row n }
+unfolding row_point
+row_answered rate n e l = simp (eq-eqb rate 1 e, lt-ltb n 256 l)
+
+pub rate_refused : (rate n : ℕ) → (rate ≡ 1 → ⊥) → row_point rate n ≡ no_point
+rate_refused rate n h = (foreign rate h n []).0
+
+pub index_refused : (rate n : ℕ) → rate ≡ 1 → 256 ≤ n → row_point rate n ≡ no_point
+index_refused rate n e l = rw e (too_large n l)

@@ -64,6 +64,22 @@ said_data l p h =
     let e : l - 8 + 8 ≡ l = omega arith in
     ap (λ (z : Size). said z l) (ap table_a2 (sym e) ∙ same_size (l - 8) (omega arith))
 
+-- what the first byte says, by what the code tests
+pub read_marked : (s : List ℕ) → 0 < length s → 128 ≤ get_or s 0 0 → get_or s 0 0 < 256 → prefix_of s ≡ Marked
+read_marked s h m b = read_some s h ∙ byte_marked _ m b
+
+pub read_no_data : (s : List ℕ) → 0 < length s → get_or s 0 0 < 128 → get_or s 0 0 / 4 ≡ 0 → prefix_of s ≡ NoData
+read_no_data s h b l = read_said s h b ∙ said_none _ l
+
+pub read_low : (s : List ℕ) → 0 < length s → get_or s 0 0 < 128 → 0 < get_or s 0 0 / 4 → get_or s 0 0 / 4 < 8 → prefix_of s ≡ Reserved
+read_low s h b p l = read_said s h b ∙ said_low _ p l
+
+pub read_high : (s : List ℕ) → 0 < length s → get_or s 0 0 < 128 → 27 < get_or s 0 0 / 4 → prefix_of s ≡ Reserved
+read_high s h b l = read_said s h b ∙ said_high _ l
+
+pub read_data : (s : List ℕ) → 0 < length s → get_or s 0 0 < 128 → 8 ≤ get_or s 0 0 / 4 → get_or s 0 0 / 4 ≤ 27 → prefix_of s ≡ Data (record { 0 = get_or s 0 0 / 4 })
+read_data s h b p l = read_said s h b ∙ said_data _ p l
+
 -- R is ignored: bytes that agree in F and L say the same
 pub r_ignored : (f l r q : ℕ) → l < 32 → r < 4 → q < 4 → prefix_byte (byte_with f l r) ≡ prefix_byte (byte_with f l q)
 unfolding prefix_byte
