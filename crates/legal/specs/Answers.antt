@@ -1,6 +1,6 @@
 -- What legalising answers, and which norms it gives.
 -- Assumes nothing.
-use Rattle.std.specs.Prelude.{Bool, cond, List, [], ◌∷◌, ℕ, replicate}
+use Rattle.std.specs.Prelude.{Bool, cond, List, ℕ, replicate}
 use Rattle.ground.specs.Indices.{in_range}
 use Rattle.ground.specs.Replies.{done, out_of_range}
 use Rattle.legal.specs.Legal.{legal_of}
