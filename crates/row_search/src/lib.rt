@@ -107,6 +107,7 @@ fn no_row() -> Row
 }
 
 // The index that names a point: 0 and its number; 8 for a rate that is not 1 or a vector that is no row.
+#[tactic(auto, using(crate::proofs::Laws::Seek::row_foreign, crate::proofs::Laws::Seek::row_past, crate::proofs::Laws::Seek::row_made, crate::proofs::Laws::Seek::row_other))]
 pub fn codebook_index(rate: u8, point: &[i16; 8]) -> Row
     ensures { result ≡ row_index rate point.now }
 {

@@ -112,7 +112,8 @@ miss rate n v e only a =
     let z : ◌≡◌ {A = ℕ} 0 1 = cc in absurd (omega arith))
     (λ b. simp (eq-eqb rate 1 e, b))
 
--- ---- each way out of the call is a case of the definition
+-- ---- each way out of the call is a case of the definition: if the row that it finds is the point, the index is that row's number; if it is
+-- not, no row is the point, since only that row can have the point's code
 
 pub row_foreign : (rate : ℕ) (v : List ℤ) {p : Row} → (rate ≡ 1 → ⊥) → p ≡ no_row → p ≡ row_index rate v
 unfolding row_index
