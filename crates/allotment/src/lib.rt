@@ -46,7 +46,8 @@ pub fn allot(transient: bool, wide: bool, norms: [u8; 44], budget: u32) -> Share
     ensures { result ≡ shares_of transient wide norms budget }
 {
     if ground::indices::in_range(&norms) {
-        if budget <= 2560 {
+        let paid = budget <= 2560;
+        if paid {
             let ws = weights::weights_of(transient, &norms);
             let heights = heights_of(&norms, &ws);
             let ends = levels::settle(wide, &heights, budget as u16);
