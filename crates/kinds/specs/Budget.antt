@@ -1,6 +1,6 @@
 -- What the flags say of the budget (01, Coefficient codes): the noise bits that it leaves out, who competes for it, and the kinds that come of it.
 -- Assumes nothing.
-use Rattle.std.specs.Prelude.{Bool, true, cond, List, [], ◌∷◌, ℕ, eqb}
+use Rattle.std.specs.Prelude.{Bool, true, cond, List, ℕ, eqb}
 use Rattle.allotment.specs.Allotment.{shares_of}
 use Rattle.kinds.specs.Kinds.{kinds}
 

@@ -9,7 +9,7 @@ ghost use Rattle.kinds.specs.Budget.{noise_bits, all_compete, kinds_at};
 
 use ground::numbers::minus;
 
-#[derive(Drop)]
+#[derive(Clone, Copy)]
 pub struct Flags {
     pub transient: bool,
     pub l: bool,
@@ -84,6 +84,7 @@ pub fn noise_bits(transient: bool) -> usize
 }
 
 // Whether bands 36 to 43 compete: FlagL acts at 80 bytes alone.
+#[tactic(auto, using(crate::proofs::Laws::Budget::wide_small, crate::proofs::Laws::Budget::wide_other))]
 fn all_compete(end: usize, flag_l: bool) -> bool
     ensures { result ≡ all_compete end flag_l }
 {
