@@ -1,6 +1,6 @@
 -- What the functions of this crate promise each other.
 -- Assumes nothing.
-use Rattle.std.specs.Prelude.{◌≡◌, List, ◌∷◌, ◌++◌, ℕ, ◌+◌, ◌-◌, ◌*◌, ◌≤◌, length, drop}
+use Rattle.std.specs.Prelude.{◌≡◌, List, ◌++◌, ℕ, ◌+◌, ◌-◌, ◌*◌, ◌≤◌, length, drop}
 use Rattle.ground.specs.Replies.{done}
 use Rattle.bits.specs.Bits.{view}
 use Rattle.bits.specs.Codings.{got}
