@@ -17,6 +17,7 @@ pub mod answer;
 const MOST_UNITS: u32 = 3000;
 
 // Whether a recording may have so many channels: 1 to 8.
+#[tactic(auto, unfolding(crate::specs::Blocks::is_count))]
 pub fn is_count(channels: usize) -> bool
     ensures { result ≡ is_count channels }
 {
@@ -37,6 +38,7 @@ fn made_check(reply: u8, count: u32, place: usize) -> Check
 }
 
 // Whether a frame with this reply counts as sound: 0, and 14 for no data.
+#[tactic(auto, unfolding(crate::specs::Inner::is_sound))]
 fn is_sound(reply: u8) -> bool
     ensures { result ≡ is_sound reply }
 {
@@ -84,6 +86,7 @@ pub fn pass_block(src: &[u8], channels: usize) -> Passing
 }
 
 // One step of the walk: what stands at a place behind so many sound units. The end is 0 and no bytes; a byte behind 3,000 units is 15, unread.
+#[tactic(auto, using(crate::proofs::Laws::Walked::step_end, crate::proofs::Laws::Walked::step_full, crate::proofs::Laws::Walked::step_unit))]
 pub fn step(src: &[u8], at: usize, count: u32, channels: usize) -> Passing
     ensures { result ≡ passing_of (next_step (block_step channels) (most_frames - count) (drop at src.now)) }
 {
@@ -114,6 +117,7 @@ pub fn walk_blocks(src: &[u8], channels: usize) -> Check
 }
 
 // Checks a recording of several channels: what the walk says, and at the end 11 if the count of blocks is not as booked.
+#[tactic(auto, using(crate::proofs::Laws::Walked::check_missed, crate::proofs::Laws::Walked::check_agreed, crate::proofs::Laws::Walked::check_other))]
 pub fn check_blocks(src: &[u8], channels: usize, booking: u32) -> Check
     requires { 1 ≤ channels }
     ensures { result ≡ check_blocks channels src.now booking }
