@@ -1,5 +1,5 @@
 -- The public calls by name: what each answers, and what the memory that it was lent holds afterwards. The other pages speak of these; that the contracts
--- of the code say the same, letter by letter, is the page Contracts.
+-- of the code say the same, letter by letter, is the page Promised.
 -- Assumes nothing.
 use Rattle.std.specs.Prelude.{Bool, List, ℕ, ℤ, length}
 use Rattle.prefix.specs.Prefix as prefix
