@@ -17,7 +17,7 @@ use runs::Run;
 
 // A frame's record, beside 800 codes and 320 tail bytes.
 #[repr(C)]
-#[derive(Drop)]
+#[derive(Clone, Copy)]
 pub struct Record {
     pub mode: u8,
     pub transient: bool,
