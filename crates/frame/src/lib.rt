@@ -17,7 +17,7 @@ use runs::Run;
 
 // A frame's record, beside 800 codes and 320 tail bytes.
 #[repr(C)]
-#[derive(Drop)]
+#[derive(Clone, Copy)]
 pub struct Record {
     pub mode: u8,
     pub transient: bool,
@@ -31,7 +31,7 @@ pub struct Record {
 
 // What reading answers: 0 with the next place and the record; 14 with the next place; else the reply alone.
 #[repr(C)]
-#[derive(Drop)]
+#[derive(Clone, Copy)]
 pub struct Reading {
     pub reply: u8,
     pub next: usize,

@@ -21,7 +21,7 @@ ghost use Rattle.joining.specs.Joining.{join_answer, join_after};
 ghost use Rattle.boundary.specs.PrefixStructs.{prefix_numbers, byte_numbers};
 ghost use Rattle.boundary.specs.Flags.{flag_in, record_in, reading_out, choice_out, block_out, records_in};
 ghost use Rattle.block_reader.specs.Reading as block_read;
-ghost use Rattle.block_writer.specs.Writing as blockWritten;
+ghost use Rattle.block_writer.specs.Writing as block_written;
 
 use allotment::Shares;
 use boundary::{
@@ -179,8 +179,8 @@ pub extern "C" fn g719_write_block(
     tails: &[u8],
     out: &mut [u8],
 ) -> Writing
-    ensures { (result ≡ blockWritten.block_answer (blockWritten.block_reply (records_in records) channels codes.now tails.now (length out.old)) (records_in records) channels codes.now tails.now)
-        × (out.new ≡ blockWritten.out_after (blockWritten.block_reply (records_in records) channels codes.now tails.now (length out.old)) (records_in records) channels codes.now tails.now out.old) }
+    ensures { (result ≡ block_written.block_answer (block_written.block_reply (records_in records) channels codes.now tails.now (length out.old)) (records_in records) channels codes.now tails.now)
+        × (out.new ≡ block_written.out_after (block_written.block_reply (records_in records) channels codes.now tails.now (length out.old)) (records_in records) channels codes.now tails.now out.old) }
 {
     block_writer::write_block(records_in(records), channels, codes, tails, out)
 }

@@ -5,7 +5,7 @@ pub mod Readings
 pub mod WalkNumbers
 pub mod Copies
 pub mod Numbered
-pub mod Contracts
+pub mod Promised
 pub mod Demand1
 pub mod Demand2
 pub mod Demand3

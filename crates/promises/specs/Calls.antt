@@ -1,5 +1,5 @@
 -- The public calls by name: what each answers, and what the memory that it was lent holds afterwards. The other pages speak of these; that the contracts
--- of the code say the same, letter by letter, is the page Contracts.
+-- of the code say the same, letter by letter, is the page Promised.
 -- Assumes nothing.
 use Rattle.std.specs.Prelude.{Bool, List, ℕ, ℤ, length}
 use Rattle.prefix.specs.Prefix as prefix
@@ -32,7 +32,7 @@ use Rattle.channels.specs.declared.Copied.{Copied}
 use Rattle.joining.specs.Joining.{join_answer, join_after}
 use Rattle.block_reader.specs.Reading as block_read
 use Rattle.block_reader.specs.declared.Block.{Block}
-use Rattle.block_writer.specs.Writing as blockWritten
+use Rattle.block_writer.specs.Writing as block_written
 use Rattle.block_writer.specs.declared.Records.{Records}
 use Rattle.listing.specs.Listing as listing
 use Rattle.listing.specs.declared.Listing.{Listing}
@@ -136,8 +136,8 @@ read_block src channels codes tails =
 
 abbrev pub write_block : Records → ℕ → List ℕ → List ℕ → List ℕ → Wrote Writing
 write_block records channels codes tails out =
-    let reply = blockWritten.block_reply records channels codes tails (length out) in
+    let reply = block_written.block_reply records channels codes tails (length out) in
     record {
-      answer = blockWritten.block_answer reply records channels codes tails;
-      out = blockWritten.out_after reply records channels codes tails out;
+      answer = block_written.block_answer reply records channels codes tails;
+      out = block_written.out_after reply records channels codes tails out;
     }

@@ -1,7 +1,7 @@
 -- The starred examples of 01: one list, one claim.
 -- Assumes nothing.
 use Rattle.std.specs.Prelude.{◌≡◌, Bool, true, false, List, [], ◌∷◌, ◌++◌, ℕ, ◌+◌, pos, negsuc, take, drop, replicate}
-use Rattle.prefix.specs.Prefix.{prefix_of, reading_of as prefixReading}
+use Rattle.prefix.specs.Prefix.{prefix_of, reading_of as prefix_reading}
 use Rattle.weights.specs.Weights.{weighed}
 use Rattle.allotment.specs.Allotment.{shares_of}
 use Rattle.points.specs.Answers.{point_of}
@@ -44,10 +44,10 @@ unfoldable pub starred : List {1} (Type 0)
 starred =
     -- Prefix 20 alone: 4. 04: 3. 80: 2. 6C: L 27, 320 bytes. 70: 3
     (reading_of (read_answer (0x20 ∷ []) 800 320) ≡ stopped_at 4 0)
-    ∷ (prefixReading (prefix_of (0x04 ∷ [])) ≡ record { reply = 3; field = 0; bytes = 0; next = 0 })
-    ∷ (prefixReading (prefix_of (0x80 ∷ [])) ≡ record { reply = 2; field = 0; bytes = 0; next = 0 })
-    ∷ (prefixReading (prefix_of (0x6C ∷ [])) ≡ record { reply = 0; field = 27; bytes = 320; next = 1 })
-    ∷ (prefixReading (prefix_of (0x70 ∷ [])) ≡ record { reply = 3; field = 0; bytes = 0; next = 0 })
+    ∷ (prefix_reading (prefix_of (0x04 ∷ [])) ≡ record { reply = 3; field = 0; bytes = 0; next = 0 })
+    ∷ (prefix_reading (prefix_of (0x80 ∷ [])) ≡ record { reply = 2; field = 0; bytes = 0; next = 0 })
+    ∷ (prefix_reading (prefix_of (0x6C ∷ [])) ≡ record { reply = 0; field = 27; bytes = 320; next = 1 })
+    ∷ (prefix_reading (prefix_of (0x70 ∷ [])) ≡ record { reply = 3; field = 0; bytes = 0; next = 0 })
     -- File check of 00 20: one sound frame, reply 4 at place 1
     ∷ ((booking : ℕ) → check_of (0x00 ∷ 0x20 ∷ []) booking ≡ record { reply = 4; count = 1; place = 1 })
     -- The lister ends it with 0001 4 0, total 1 answer 4 at 1

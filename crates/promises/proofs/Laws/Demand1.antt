@@ -14,7 +14,7 @@ use Rattle.ground.specs.ListsByRule.{from}
 use Rattle.ground.specs.Indices.{in_range}
 use Rattle.ground.specs.Replies.{done, wrong_channels}
 use Rattle.words.specs.Tables.{coding}
-use Rattle.prefix.specs.Prefix.{prefix_of, byte_of, reading_of as prefixReading, writing_of as prefixWriting, PrefixReading}
+use Rattle.prefix.specs.Prefix.{prefix_of, byte_of, reading_of as prefix_reading, writing_of as prefix_writing, PrefixReading}
 use Rattle.prefix.specs.declared.Prefix.{Prefix}
 use Rattle.prefix.specs.declared.Prefix.TheVariants.{Data, NoData, NoByte, Marked, Reserved}
 use Rattle.prefix.specs.declared.Byte.{Byte}
@@ -51,7 +51,7 @@ use Rattle.recording.proofs.Laws.Blocks.{block_unit, counted}
 use Rattle.recording.proofs.Laws.Checked.{check_replies}
 use Rattle.block_reader.specs.Reading as block_read
 use Rattle.block_reader.specs.declared.Block.{Block}
-use Rattle.block_writer.specs.Writing as blockWritten
+use Rattle.block_writer.specs.Writing as block_written
 use Rattle.channels.specs.Copies.{check_answer, made_copy, refused_copy, stopped_copy, extract_answer}
 use Rattle.channels.specs.declared.Copied.{Copied}
 use Rattle.joining.specs.Joining.{join_answer}
@@ -100,7 +100,7 @@ untouched =
           (rw (ne_eqb x 0 m), rw (ne_eqb x 0 m));
       write_block =
           λ r channels codes tails out n.
-          let x = blockWritten.block_reply r channels codes tails (length out) in
+          let x = block_written.block_reply r channels codes tails (length out) in
           rw (ne_eqb x 0 (λ z. n (made_reply (λ (w : Writing). w.reply) x _ _ refl refl ∙ z)));
     }
 
@@ -114,14 +114,14 @@ read_zeros =
     each_reading (λ (o : Outcome). ReadingZeros (reading_of o)) (λ n. refl) (λ n. refl) (λ n. refl) (λ n. refl) (λ n. refl) (λ n. refl) (λ n. refl) (λ n. refl)
     (λ n. refl) (λ mode x n. absurd (n refl))
 
-prefix_zeros : (p : Prefix) → let a = prefixReading p in Refused a.reply → a ≡ record { reply = a.reply; field = 0; bytes = 0; next = place_on a.reply }
+prefix_zeros : (p : Prefix) → let a = prefix_reading p in Refused a.reply → a ≡ record { reply = a.reply; field = 0; bytes = 0; next = place_on a.reply }
 prefix_zeros (Data l) n = absurd (n refl)
 prefix_zeros NoData n = refl
 prefix_zeros NoByte n = refl
 prefix_zeros Marked n = refl
 prefix_zeros Reserved n = refl
 
-byte_zeros : (b : Byte) → let a = prefixWriting b in Refused a.reply → a ≡ record { reply = a.reply; byte = 0 }
+byte_zeros : (b : Byte) → let a = prefix_writing b in Refused a.reply → a ≡ record { reply = a.reply; byte = 0 }
 byte_zeros (Is b) n = absurd (n refl)
 byte_zeros OutOfRange n = refl
 
@@ -268,7 +268,7 @@ zeros =
           done_first (λ (b : Block). b.reply) block_read.no_block (eqb (block_read.block_reply src channels (length codes) (length tails)) 0) _ _ refl refl;
       write_block =
           λ records channels codes tails out.
-          done_first (λ (w : Writing). w.reply) written (eqb (blockWritten.block_reply records channels codes tails (length out)) 0) _ _ refl refl;
+          done_first (λ (w : Writing). w.reply) written (eqb (block_written.block_reply records channels codes tails (length out)) 0) _ _ refl refl;
       check_blocks = blocks_zeros;
       extract =
           λ src channels channel out.

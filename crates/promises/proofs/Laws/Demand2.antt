@@ -34,9 +34,9 @@ use Rattle.writer.proofs.Laws.Bodies.{passed, writes}
 use Rattle.writer.proofs.Laws.ReadBack as readback
 use Rattle.writer.proofs.Laws.WriteBack.{write_back}
 use Rattle.points.specs.Answers.{point_of, index_of, no_point, no_index}
-use Rattle.points.proofs.Laws.OneToOne as lattice-laws
+use Rattle.points.proofs.Laws.OneToOne as lattice_laws
 use Rattle.codebook.specs.Codebook.{row_point, row_index, no_row}
-use Rattle.codebook.proofs.Laws.OneToOne as codebook-laws
+use Rattle.codebook.proofs.Laws.OneToOne as codebook_laws
 use Rattle.frame.proofs.Laws.PlainCodes as reading
 use Rattle.writer.proofs.Laws.PlainCodes as writing
 use Rattle.writer.specs.Writes.{writing_of}
@@ -187,10 +187,10 @@ rules =
 points : Points
 points =
     record {
-      one_to_one = lattice-laws.one_to_one;
-      other_rates = lattice-laws.foreign;
-      rows_one_to_one = codebook-laws.one_to_one;
-      other_rates_than_1 = codebook-laws.foreign;
+      one_to_one = lattice_laws.one_to_one;
+      other_rates = lattice_laws.foreign;
+      rows_one_to_one = codebook_laws.one_to_one;
+      other_rates_than_1 = codebook_laws.foreign;
     }
 
 pub demand2 : Demand2

@@ -13,13 +13,13 @@ use Rattle.ground.specs.Indices.{in_range}
 use Rattle.ground.specs.Refusals.{among, OneOf}
 use Rattle.ground.proofs.Laws.Refusals.{first_number}
 use Rattle.bits.specs.Bits.{view}
-use Rattle.bits.specs.Codings.{Coding, fixed, prefix, Answer, got, no, or_else, find, strip, keep, below as belowIn, whole, unword}
+use Rattle.bits.specs.Codings.{Coding, fixed, prefix, Answer, got, no, or_else, find, strip, keep, below as below_in, whole, unword}
 use Rattle.words.specs.Tables.{coding}
 use Rattle.words.specs.Answers.{placed, word_at, number_of}
 use Rattle.runs.specs.Runs.{passed_up, run_reply}
 use Rattle.words.specs.declared.Word.{Word}
 use Rattle.words.specs.declared.Word.TheVariants.{At, No}
-use Rattle.prefix.specs.Prefix.{prefix_of, byte_of, reading_of as prefixReading, writing_of as prefixWriting}
+use Rattle.prefix.specs.Prefix.{prefix_of, byte_of, reading_of as prefix_reading, writing_of as prefix_writing}
 use Rattle.prefix.specs.declared.Prefix.{Prefix}
 use Rattle.prefix.specs.declared.Prefix.TheVariants.{Data, NoData, NoByte, Marked, Reserved}
 use Rattle.prefix.specs.declared.Byte.{Byte}
@@ -53,9 +53,9 @@ use Rattle.recording.proofs.Laws.Checked.{check_replies}
 use Rattle.recording.proofs.Laws.Frames.{frame_unit}
 use Rattle.recording.specs.Blocks.{is_count, check_blocks}
 use Rattle.recording.proofs.Laws.Blocks.{block_unit, counted}
-use Rattle.frames.specs.Rooms.{room_causes as blockRooms}
+use Rattle.frames.specs.Rooms.{room_causes as block_rooms}
 use Rattle.block_reader.specs.Reading as block_read
-use Rattle.block_writer.specs.Writing as blockWritten
+use Rattle.block_writer.specs.Writing as block_written
 use Rattle.block_writer.specs.declared.Records.{Records}
 use Rattle.block_writer.proofs.Laws.ReplyNumbers.{read_numbers, write_numbers}
 use Rattle.channels.specs.Copies.{check_answer, extract_answer}
@@ -131,12 +131,12 @@ check_file_number src booking = check_number (check_of src booking).reply (check
 
 pub read_block_number : (src : List ℕ) (channels codes tails : ℕ)
     → OneOf (0 ∷ 1 ∷ 2 ∷ 3 ∷ 4 ∷ 5 ∷ 6 ∷ 7 ∷ 10 ∷ 17 ∷ []) (block_read.block_reply src channels codes tails)
-unfolding among blockRooms
+unfolding among block_rooms
 read_block_number src channels codes tails = read_numbers (among (0 ∷ 1 ∷ 2 ∷ 3 ∷ 4 ∷ 5 ∷ 6 ∷ 7 ∷ 10 ∷ 17 ∷ [])) tt src channels codes tails tt
 
 pub write_block_number : (r : Records) (channels : ℕ) (codes tails : List ℕ) (room : ℕ)
-    → OneOf (0 ∷ 7 ∷ 8 ∷ 9 ∷ 10 ∷ 12 ∷ 13 ∷ 17 ∷ []) (blockWritten.block_reply r channels codes tails room)
-unfolding among blockRooms write_causes room_causes norm_causes code_causes tail_causes
+    → OneOf (0 ∷ 7 ∷ 8 ∷ 9 ∷ 10 ∷ 12 ∷ 13 ∷ 17 ∷ []) (block_written.block_reply r channels codes tails room)
+unfolding among block_rooms write_causes room_causes norm_causes code_causes tail_causes
 write_block_number r channels codes tails room =
     write_numbers (among (0 ∷ 7 ∷ 8 ∷ 9 ∷ 10 ∷ 12 ∷ 13 ∷ 17 ∷ [])) r channels codes tails room tt tt (λ r cs ts. tt) tt
 
@@ -179,7 +179,7 @@ list_number src room = picked (λ (l : Listing). OneOf (0 ∷ 10 ∷ []) l.reply
 
 -- ---- the prefix byte: read 0, 1, 2, 3, 14; written 0, 8
 
-pub prefix_number : (p : Prefix) → OneOf (0 ∷ 1 ∷ 2 ∷ 3 ∷ 14 ∷ []) (prefixReading p).reply
+pub prefix_number : (p : Prefix) → OneOf (0 ∷ 1 ∷ 2 ∷ 3 ∷ 14 ∷ []) (prefix_reading p).reply
 unfolding among
 prefix_number (Data l) = tt
 prefix_number NoData = tt
@@ -187,7 +187,7 @@ prefix_number NoByte = tt
 prefix_number Marked = tt
 prefix_number Reserved = tt
 
-pub byte_number : (b : Byte) → OneOf (0 ∷ 8 ∷ []) (prefixWriting b).reply
+pub byte_number : (b : Byte) → OneOf (0 ∷ 8 ∷ []) (prefix_writing b).reply
 unfolding among
 byte_number (Is b) = tt
 byte_number OutOfRange = tt
@@ -220,7 +220,7 @@ unfolding among
 whole_number true n b at left = tt
 whole_number false n b at left = tt
 
-below_number : (k : ℕ) (a : Answer ℕ) → Decodes a → Decodes (belowIn k a)
+below_number : (k : ℕ) (a : Answer ℕ) → Decodes a → Decodes (below_in k a)
 below_number k (got v r) d = keep_number (ltb v k) (got v r) d
 below_number k (no x) d = d
 
@@ -307,7 +307,7 @@ numbered =
       write_block =
           λ r channels codes tails out.
           picked (λ (w : Written). OneOf (0 ∷ 7 ∷ 8 ∷ 9 ∷ 10 ∷ 12 ∷ 13 ∷ 17 ∷ []) w.reply)
-          (eqb (blockWritten.block_reply r channels codes tails (length out)) 0) _ _ tt (write_block_number r channels codes tails (length out));
+          (eqb (block_written.block_reply r channels codes tails (length out)) 0) _ _ tt (write_block_number r channels codes tails (length out));
       word = word_number;
       run = word_passed;
     }

@@ -12,7 +12,7 @@ use Rattle.bits.specs.Codecs.{write_all}
 use Rattle.norm_words.specs.Table16.{table16}
 use Rattle.words.specs.Tables.{coding, words}
 use Rattle.prefix.specs.Sizes.{table_a2, length_bytes, mode_bytes, table22}
-use Rattle.prefix.specs.Prefix.{prefix_of, prefix_byte, reading_of as prefixReading}
+use Rattle.prefix.specs.Prefix.{prefix_of, prefix_byte, reading_of as prefix_reading}
 use Rattle.prefix.proofs.Examples as prefix
 use Rattle.order.specs.SentOrder.{sent}
 use Rattle.norms.specs.Steps.{numbers}

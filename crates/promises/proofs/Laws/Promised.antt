@@ -1,4 +1,4 @@
--- That the contracts say what the page Contracts says.
+-- That the contracts say what the page Promised says.
 -- Assumes nothing.
 use mathlib.Core.Path.{sym, ◌∙◌}
 use Rattle.promises.specs.Promised.{Contracts, Alike}
