@@ -119,7 +119,8 @@ pub fn list(src: &[u8], out: &mut [u8]) -> Listing
             length: 0,
         };
     }
-    if MOST_BYTES < src.len() {
+    let too_long = MOST_BYTES < src.len();
+    if too_long {
         let n = put(out, 0, b"input too long\n");
         return Listing {
             reply: DONE,
