@@ -78,6 +78,13 @@ module _ {src : List ℕ} {n : ℕ} {codes₀ tails₀ codes tails : List ℕ} {
   pub taken_inside : at ≤ length src
   taken_inside = omega (arith, p.place, place_inside src 0 c (omega arith))
 
+  -- and so does the one behind the frame there
+  pub taken_on : {z : ℕ} → z ≡ size_at (drop at src) → at + z ≤ length src
+  taken_on {z} es =
+      let e : at + z ≡ place_of src (c + 1) =
+      ap (λ (k : ℕ). at + k) es ∙ ap (λ (q : ℕ). q + size_at (drop q src)) p.place ∙ sym (place_more src 0 c) in
+      omega (arith, e, place_inside src 0 (c + 1) (omega arith))
+
   module _ (h : c < n) (a : n * 800 ≤ length codes₀) (b : n * 320 ≤ length tails₀) where
     -- the frame at the place is channel c's, and its parts are as they were lent
     pub taken_more : {m j z : ℕ} {r : Reading} {cs ts ys zs : List ℕ} → n ≤ 8 → length frames₀ ≡ 8 → m ≡ 800 → j ≡ 320

@@ -3,30 +3,28 @@
 use mathlib.Core.Path.{◌≡◌, refl, sym, ap, ap₂, ◌∙◌, subst}
 use mathlib.Core.List.{List, [], ◌∷◌, ◌++◌, append_assoc, append-nil}
 use Prim.Native.Nat.{ℕ, zero, suc, ◌+◌, ◌-◌, ◌*◌, ◌≤◌, ◌<◌}
-use native.Mathlib.Nat.{add-zero, zero-add, add-suc, suc-mul, zero-mul}
+use native.Mathlib.Nat.{add-zero, zero-add, suc-mul, zero-mul}
 use native.Mathlib.Omega.{arith}
 use lib.ListN.{length, take, drop, get_or, length-append}
-use lib.Seq.{drop-append-add, take_at, drop_at}
+use lib.Seq.{drop-append-add, take_at}
 use Rattle.ground.specs.ListsByRule.{table, from}
 use Rattle.ground.proofs.Laws.ListsByRule.{filled}
 use Rattle.ground.proofs.Laws.ListsByRule.{table_same}
 use Rattle.ground.specs.Runs.{runs}
-use Rattle.ground.proofs.Laws.Runs.{runs_none, runs_more, runs_add, runs_front, runs_same}
+use Rattle.ground.proofs.Laws.Runs.{runs_none, runs_add, runs_front, runs_same}
 use Rattle.ground.specs.Replies.{done}
-use Rattle.prefix.specs.Sizes.{length_bytes, mode_bytes}
-use Rattle.prefix.specs.Prefix.{prefix_of}
-use Rattle.prefix.specs.declared.Prefix.{Prefix}
+use Rattle.prefix.specs.Sizes.{mode_bytes}
 use Rattle.frame.specs.Answers.{Outcome, refused, empty, sound}
-use Rattle.recording.specs.Walk.{Step, stops, passes, step_of, frame_step, stored_at, walk, ahead}
+use Rattle.recording.specs.Walk.{passes, step_of, frame_step, stored_at, walk, ahead}
 use Rattle.recording.proofs.Laws.Walk.{walk_end, ahead_stopped}
-use Rattle.recording.specs.Units.{Units, none, more}
+use Rattle.recording.specs.Units.{none, more}
 use Rattle.recording.proofs.Laws.Units.{walk_units}
 use Rattle.recording.specs.Frames.{Stored, Frames}
 use Rattle.recording.proofs.Laws.Frames.{frame_unit, sound_says, bare_says, first_bare}
 use Rattle.recording.specs.Blocks.{Blocks}
 use Rattle.recording.specs.declared.answer.Check.{Check}
 use Rattle.frames.specs.Places.{said_bytes, size_at, place_from, place_of, frame_at, frames_of, concatenated}
-use Rattle.frames.proofs.Laws.Places.{size_said, place_more, place_add, place_none}
+use Rattle.frames.proofs.Laws.Places.{size_said, place_add}
 
 -- ---- the frame at the start
 
