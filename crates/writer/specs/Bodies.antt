@@ -1,6 +1,6 @@
 -- The bits of a body, part after part.
 -- Assumes nothing.
-use Rattle.std.specs.Prelude.{◌≡◌, Bool, true, List, [], ◌∷◌, ◌++◌, map, ℕ, ◌-◌, ◌≤◌, length, take}
+use Rattle.std.specs.Prelude.{◌≡◌, Bool, true, List, ◌++◌, map, ℕ, ◌-◌, ◌≤◌, length, take}
 use Rattle.ground.specs.Replies.{done}
 use Rattle.bits.specs.Bits.{word, view}
 use Rattle.bits.specs.Codecs.{write_all, FitAll}

@@ -3,7 +3,7 @@
 use mathlib.Core.Path.{◌≡◌, refl, sym, ap, ap₂, ◌∙◌}
 use mathlib.Core.Bool.{Bool, true, false}
 use mathlib.Core.List.{List, [], ◌∷◌, ◌++◌, append_assoc, map}
-use Prim.Native.Nat.{ℕ, ◌+◌, ◌*◌, ◌^◌, ◌<◌, min}
+use Prim.Native.Nat.{ℕ, ◌+◌, ◌*◌, ◌^◌, ◌<◌, ◌≤◌, min}
 use native.Mathlib.Omega.{arith}
 use borrow.Author.Tests.{eqb-true, ltb-true, ltb-false, not-false, eq-eqb, ne_eqb}
 use lib.ListN.{length, take, drop, set, length-append}
@@ -21,11 +21,11 @@ use Rattle.prefix.proofs.Laws.Sizes.{mode_bounds}
 use Rattle.prefix.specs.Prefix.{byte_with, byte_of}
 use Rattle.prefix.proofs.Laws.Prefix.{byte_mode}
 use Rattle.prefix.specs.declared.Byte.{Byte}
-use Rattle.prefix.specs.declared.Byte.TheVariants as Byte
 use Rattle.norms.specs.Legal.{LegalNorms}
 use Rattle.norms.specs.Part.{norm_bits}
 use Rattle.norms.proofs.Laws.Codec.{write_is, ok_legal}
-use Rattle.norms.proofs.Laws.Part.{norm_bits_lem}
+use Rattle.norms.proofs.Laws.Part.{bits_few, norm_bits_lem}
+use Rattle.runs.proofs.Laws.Writes.{run_few}
 use Rattle.norms.specs.Answers.{norm_causes}
 use Rattle.norms.proofs.Laws.Answers.{legal_reply}
 use Rattle.kinds.specs.Budget.{noise_bits}
@@ -137,6 +137,24 @@ module _ (r : Record) (vs ts s₀ s₁ s₂ s₃ s₄ s₅ : List ℕ) (f n m k 
       e₅ ∙ ap₂ (λ (x : List ℕ) (i : ℕ). laid x i e) four_parts p ∙ laid_append s₀ 8 (((a ++ b) ++ c) ++ d) e
       ∙ ap (laid s₀ 8) (append_assoc ((a ++ b) ++ c) d e ∙ append_assoc (a ++ b) c (d ++ e) ∙ append_assoc a b (c ++ (d ++ e)))
 
+-- as the code makes them: the kinds and the count of the tail are the record's
+pub body_code : {n m k z t : ℕ} {ks s₁ s₂ s₃ s₄ s₅ : List ℕ} (r : Record) (vs ts s₀ : List ℕ) (f : ℕ) → ks ≡ kinds_for r → word 4 f ≡ flag_bits r
+    → s₁ ≡ laid s₀ 8 (word 4 f) → n ≡ length (norm_bits r.transient r.flag_n r.norms) → s₂ ≡ laid s₁ 12 (norm_bits r.transient r.flag_n r.norms)
+    → m ≡ length (write_all (map coding ks) vs) → s₃ ≡ laid s₂ (12 + n) (write_all (map coding ks) vs) → k ≡ noise_bits r.transient → z ≡ r.noise
+    → s₄ ≡ laid s₃ (12 + n + m) (word (min k 16) z) → t ≡ r.tail_bits → s₅ ≡ laid s₄ (12 + n + m + k) (view ts 0 t)
+    → s₅ ≡ laid s₀ 8 (body_bits r vs ts)
+body_code {n} {m} {k} {z} {t} {ks} {s₁} {s₂} {s₃} {s₄} {s₅} r vs ts s₀ f q ef e₁ en e₂ em e₃ ek ez e₄ et e₅ =
+    body_laid r vs ts s₀ s₁ s₂ s₃ s₄ s₅ f n m k z ef e₁ en e₂
+    (em ∙ ap (λ (l : List ℕ). length (write_all (map coding l) vs)) q)
+    (e₃ ∙ ap (λ (l : List ℕ). laid s₂ (12 + n) (write_all (map coding l) vs)) q)
+    ek ez e₄
+    (e₅ ∙ ap (λ (i : ℕ). laid s₄ (12 + n + m + k) (view ts 0 i)) et)
+
+-- the norms, the codes and the noise have few bits
+pub few : {n m k : ℕ} (r : Record) (ks vs : List ℕ) → length ks ≡ 800 → n ≡ length (norm_bits r.transient r.flag_n r.norms)
+    → m ≡ length (write_all (map coding ks) vs) → k ≡ noise_bits r.transient → n + m + k ≤ 13506
+few r ks vs l en em ek = omega (arith, bits_few r.transient r.flag_n r.norms, run_few ks vs, noise_le r.transient)
+
 pub passed : (r : Record) (cs ts : List ℕ) (room : ℕ) → write_reply r cs ts room ≡ 0 → Passed r cs ts room
 unfolding write_causes room_causes norm_causes code_causes tail_causes
 passed r cs ts room e =
@@ -222,6 +240,9 @@ pub record Ready (r : Record) (cs ts out : List ℕ) : Type 0 where
   pub passes : Passed r cs ts (length out)
   pub norms : length r.norms ≡ 44
   pub bytes : Bytes out
+
+pub ready : {x : ℕ} (r : Record) (cs ts out : List ℕ) → x ≡ write_reply r cs ts (length out) → x ≡ 0 → length r.norms ≡ 44 → Bytes out → Ready r cs ts out
+ready r cs ts out e z l b = record { passes = passed r cs ts (length out) (sym e ∙ z); norms = l; bytes = b }
 
 module _ {r : Record} {cs ts out : List ℕ} (R : Ready r cs ts out) where
   -- a mode of 0 to 19 has a prefix byte

@@ -17,8 +17,9 @@ use Rattle.prefix.proofs.Laws.Sizes.{mode_bounds}
 use Rattle.norms.specs.Answers.{norm_causes}
 use Rattle.frame.specs.declared.Record.{Record}
 use Rattle.tails.specs.Tails.{clear}
-use Rattle.layout.specs.Parts.{budget_for, kinds_for, codes_long, start_causes, code_causes, layout_causes, parts_by, layout_of}
-use Rattle.layout.proofs.Laws.Parts.{layout_numbered}
+use Rattle.layout.specs.Parts.{budget_for, kinds_for, codes_long, start_causes, code_causes, layout_causes, parts_by, layout_of, plan_of, parts_in}
+use Rattle.layout.specs.declared.Plan.{Plan}
+use Rattle.layout.proofs.Laws.Parts.{layout_numbered, layout_planned}
 use Rattle.layout.specs.declared.Parts.{Parts}
 use Rattle.writer.specs.Writes.{room_causes, tail_causes, write_causes, write_reply, Roomy}
 
@@ -86,6 +87,12 @@ module _ (r : Record) (cs ts : List ℕ) (room : ℕ) where
     reply_late y ep ey =
         ey ∙ ap (λ (p : Parts). first (said p.reply ∷ tail_causes ts p.tail_bits r.tail_bits)) ep
         ∙ tail_behind (layout_causes r cs) (layout_numbered r cs) _ _ _ ts r.tail_bits ∙ rooms_passed
+
+-- the last reply, by the plan and its parts
+pub reply_last : {x y z : ℕ} {pl : Plan} {p : Parts} (r : Record) (cs ts : List ℕ) (room : ℕ) → x ≡ first (room_causes r (length cs) (length ts) room) → x ≡ 0
+    → y ≡ first (start_causes r (length cs)) → y ≡ 0 → pl ≡ plan_of r → p ≡ parts_in pl.budget pl.rates pl.kinds (take 800 cs)
+    → z ≡ first (said p.reply ∷ tail_causes ts p.tail_bits r.tail_bits) → z ≡ write_reply r cs ts room
+reply_last r cs ts room ex zx ey zy el ep ez = reply_late r cs ts room _ ex zx _ (ep ∙ layout_planned r cs _ ey zy _ el) ez
 
 pub write_numbered : (r : Record) (cs ts : List ℕ) → T (numbers not_done (write_causes r cs ts 321))
 unfolding write_causes room_causes norm_causes code_causes tail_causes
