@@ -3,7 +3,7 @@
 use mathlib.Core.Path.{◌≡◌, refl, sym, ap, ◌∙◌, subst}
 use mathlib.Core.Bool.{true, cond}
 use mathlib.Core.List.{List}
-use Prim.Native.Nat.{ℕ, zero, suc, ◌+◌, ◌-◌, ◌≤◌, ◌<◌}
+use Prim.Native.Nat.{ℕ, zero, suc, ◌+◌, ◌≤◌, ◌<◌}
 use native.Mathlib.Omega.{arith}
 use lib.Dec.{eqb, ltb}
 use lib.ListN.{length}
@@ -12,7 +12,7 @@ use Rattle.ground.proofs.Laws.Cases.{by_bool}
 use Rattle.ground.specs.Sums.{nth}
 use Rattle.ground.proofs.Laws.Sums.{sum_same}
 use Rattle.ground.specs.Replies.{done, short_room, wrong_channels}
-use Rattle.recording.specs.Walk.{most_frames, made_check}
+use Rattle.recording.specs.Walk.{made_check}
 use Rattle.recording.specs.Frames.{Frames}
 use Rattle.recording.specs.Blocks.{is_count}
 use Rattle.recording.specs.declared.answer.Check.{Check}

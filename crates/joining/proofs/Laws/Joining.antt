@@ -12,7 +12,7 @@ use lib.ListN.{length, take, drop, get_or, set, replicate, length-append, length
 use lib.Seq.{length-take-le, drop-cons, drop_at, get_or_at}
 use borrow.Author.Tests.{eq-eqb, ne_eqb, lt-ltb, le-ltb, eqb-true, eqb-false}
 use Rattle.ground.proofs.Laws.Cases.{by_bool}
-use Rattle.ground.specs.ListsByRule.{table, from}
+use Rattle.ground.specs.ListsByRule.{table}
 use Rattle.ground.proofs.Laws.ListsByRule.{length_from, get_d_table}
 use Rattle.ground.proofs.Laws.ListsByRule.{table_same}
 use Rattle.ground.specs.Runs.{runs}
