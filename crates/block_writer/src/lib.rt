@@ -15,7 +15,7 @@ use prefix::Mode;
 use writer::Writing;
 
 // What a block is written from: a record for each channel, and whether its frame is an empty one.
-#[derive(Drop)]
+#[derive(Clone, Copy)]
 pub struct Records {
     pub at: [Record; 8],
     pub empty: [bool; 8],
