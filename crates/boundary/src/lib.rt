@@ -28,7 +28,7 @@ pub struct Byte {
 
 // A frame's record as C has it: each flag is a number, any but 0 being true.
 #[repr(C)]
-#[derive(Drop)]
+#[derive(Clone, Copy)]
 pub struct Record {
     pub mode: u8,
     pub transient: u8,
@@ -42,7 +42,7 @@ pub struct Record {
 
 // What reading answers, as C has it.
 #[repr(C)]
-#[derive(Drop)]
+#[derive(Clone, Copy)]
 pub struct Reading {
     pub reply: u8,
     pub next: usize,

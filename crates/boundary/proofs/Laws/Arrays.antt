@@ -1,11 +1,11 @@
 -- Arrays of eight at the C boundary, made element by element.
 -- Assumes nothing.
-use mathlib.Core.Path.{◌≡◌, refl, sym, ap, ◌∙◌, subst}
+use mathlib.Core.Path.{◌≡◌, sym, ap, ◌∙◌, subst}
 use mathlib.Core.Bool.{false}
 use mathlib.Core.List.{List, [], ◌++◌, map, append-nil}
-use Prim.Native.Nat.{ℕ, ◌<◌}
+use Prim.Native.Nat.{ℕ}
 use native.Mathlib.Omega.{arith}
-use lib.ListN.{length, drop, get_or, length-map, get_or-map, drop_of_length-le}
+use lib.ListN.{length, get_or, length-map, get_or-map, drop_of_length-le}
 use Rattle.ground.specs.ListsByRule.{table}
 use Rattle.ground.proofs.Laws.ListsByRule.{filled}
 use Rattle.ground.proofs.Laws.Runs.{Fronted}
