@@ -1,7 +1,7 @@
 -- Why this library exists: a report that stops in the middle of a frame is never called complete again. The words: `Frames k s` says that s is exactly k
 -- sound stored frames one after the other (recording/specs/Frames); most_frames is 3,000.
 -- Assumes nothing.
-use Rattle.std.specs.Prelude.{◌≡◌, List, ◌++◌, ℕ, ◌+◌, ◌≤◌, ◌<◌, length, take}
+use Rattle.std.specs.Prelude.{◌≡◌, List, ◌++◌, ℕ, ◌≤◌, ◌<◌, length, take}
 use Rattle.ground.specs.Replies.{done, cut, not_as_booked, too_many}
 use Rattle.recording.specs.Walk.{frame_step, most_frames}
 use Rattle.recording.specs.Frames.{Stored, Frames}

@@ -1,6 +1,6 @@
 -- The starred examples of 01: one list, one claim.
 -- Assumes nothing.
-use Rattle.std.specs.Prelude.{◌≡◌, Bool, true, false, List, [], ◌∷◌, ◌++◌, ℕ, ◌+◌, pos, negsuc, take, drop, replicate}
+use Rattle.std.specs.Prelude.{◌≡◌, Bool, true, false, List, [], ◌∷◌, ◌++◌, ℕ, pos, negsuc, take, drop, replicate}
 use Rattle.prefix.specs.Prefix.{prefix_of, reading_of as prefix_reading}
 use Rattle.weights.specs.Weights.{weighed}
 use Rattle.allotment.specs.Allotment.{shares_of}

@@ -1,17 +1,14 @@
 -- That several channels keep what was promised: the page Channels.
 -- Assumes nothing.
 use mathlib.Core.Path.{◌≡◌, refl, sym, ap, ap₂, ◌∙◌, subst}
-use mathlib.Core.Bool.{false}
 use mathlib.Core.List.{List, ◌++◌}
-use Prim.Native.Nat.{ℕ, ◌+◌, ◌*◌, ◌≤◌, ◌<◌}
+use Prim.Native.Nat.{ℕ, ◌≤◌, ◌<◌}
 use native.Mathlib.Omega.{arith}
 use lib.ListN.{length, take, drop}
 use borrow.Author.Tests.{eq-eqb}
 use Rattle.ground.proofs.Laws.Cases.{by_bool}
 use Rattle.ground.specs.Replies.{done, cut, not_as_booked, too_many, wrong_channels}
-use Rattle.ground.specs.Runs.{runs, part}
 use Rattle.ground.proofs.Laws.Runs.{runs_same}
-use Rattle.bits.specs.Bits.{Bytes}
 use Rattle.ground.specs.Sums.{nth}
 use Rattle.recording.specs.Walk.{made_check, most_frames, check_of}
 use Rattle.recording.specs.Frames.{Frames}
@@ -37,7 +34,7 @@ use Rattle.block_writer.specs.declared.Records.{Records}
 use Rattle.block_reader.specs.declared.Block.{Block}
 use Rattle.writer.specs.declared.Writing.{Writing}
 use Rattle.promises.proofs.Laws.Picked.{made_reply}
-use Rattle.promises.specs.Channels.{Joins, BlockTrips, BlockChecks, Channels, handed_on}
+use Rattle.promises.specs.Channels.{Joins, BlockTrips, Channels}
 
 -- what a reply of 0 of the check says
 whole_blocks : (src : List ℕ) (n booking : ℕ) → (check_answer src n booking).reply ≡ done → (1 ≤ n) × (n ≤ 8) × Blocks n booking src × (booking ≤ most_frames)

@@ -1,19 +1,18 @@
 -- That each call is refused with its number alone, and leaves what was lent.
 -- Assumes nothing.
 use mathlib.Core.Path.{◌≡◌, refl, sym, ap, ◌∙◌}
-use mathlib.Core.Bool.{Bool, true, false, cond, ◌&&◌}
-use mathlib.Core.List.{List, [], ◌∷◌, map}
+use mathlib.Core.Bool.{Bool, false, cond, ◌&&◌}
+use mathlib.Core.List.{List, [], ◌∷◌}
 use Prim.Native.Nat.{ℕ, zero, suc, ◌^◌, ◌<◌}
 use native.Mathlib.Omega.{arith}
 use lib.Dec.{eqb, ltb, leb}
 use lib.IntN.{ℤ, pos}
-use lib.ListN.{length, take, replicate}
-use borrow.Author.Tests.{eq-eqb, ne_eqb, eqb-true}
+use lib.ListN.{length, replicate}
+use borrow.Author.Tests.{ne_eqb, eqb-true}
 use Rattle.ground.proofs.Laws.Cases.{by_bool}
 use Rattle.ground.specs.ListsByRule.{from}
 use Rattle.ground.specs.Indices.{in_range}
 use Rattle.ground.specs.Replies.{done, wrong_channels}
-use Rattle.words.specs.Tables.{coding}
 use Rattle.prefix.specs.Prefix.{prefix_of, byte_of, reading_of as prefix_reading, writing_of as prefix_writing, PrefixReading}
 use Rattle.prefix.specs.declared.Prefix.{Prefix}
 use Rattle.prefix.specs.declared.Prefix.TheVariants.{Data, NoData, NoByte, Marked, Reserved}
@@ -56,7 +55,6 @@ use Rattle.channels.specs.Copies.{check_answer, made_copy, refused_copy, stopped
 use Rattle.channels.specs.declared.Copied.{Copied}
 use Rattle.joining.specs.Joining.{join_answer}
 use Rattle.ground.specs.Refusals.{first, among, OneOf}
-use Rattle.promises.specs.Calls as call
 use Rattle.promises.specs.Demand1.{Refused, Untouched, Zeros, NextPlaces, Demand1, place_on}
 use Rattle.promises.proofs.Laws.Picked.{picked, made_reply}
 use Rattle.promises.proofs.Laws.Readings.{each_reading}

@@ -6,10 +6,9 @@ use mathlib.Core.List.{List, [], ◌∷◌, ◌++◌, append-nil}
 use Prim.Native.Nat.{ℕ, ◌+◌, ◌-◌, ◌*◌, ◌≤◌, ◌<◌, zero-le}
 use native.Mathlib.Numerals.{add-one}
 use native.Mathlib.Omega.{arith}
-use lib.IntN.{ℤ}
 use lib.ListN.{length, get_or, take, drop, length-append}
 use lib.Seq.{take_at}
-use Rattle.ground.specs.Replies.{done, no_word, past_budget}
+use Rattle.ground.specs.Replies.{no_word, past_budget}
 use Rattle.bits.specs.Bits.{view, bits_of, bytes_of, Bytes}
 use Rattle.bits.proofs.Laws.Bytes.{bits_bytes, length_bytes_lem}
 use Rattle.prefix.specs.Sizes.{mode_bytes}
@@ -29,20 +28,15 @@ use Rattle.writer.specs.Writes.{write_reply, out_after, Roomy}
 use Rattle.layout.specs.declared.Parts.{Parts}
 use Rattle.tails.specs.Tails.{clear}
 use Rattle.layout.proofs.Laws.Fits.{all_fits, fits_all}
-use Rattle.writer.specs.Bodies.{Passed}
 use Rattle.writer.proofs.Laws.Bodies.{passed, writes}
 use Rattle.writer.proofs.Laws.ReadBack as readback
 use Rattle.writer.proofs.Laws.WriteBack.{write_back}
-use Rattle.points.specs.Answers.{point_of, index_of, no_point, no_index}
 use Rattle.points.proofs.Laws.OneToOne as lattice_laws
-use Rattle.codebook.specs.Codebook.{row_point, row_index, no_row}
 use Rattle.codebook.proofs.Laws.OneToOne as codebook_laws
 use Rattle.frame.proofs.Laws.PlainCodes as reading
 use Rattle.writer.proofs.Laws.PlainCodes as writing
 use Rattle.writer.specs.Writes.{writing_of}
 use Rattle.writer.specs.declared.Writing.{Writing}
-use Rattle.frame.specs.declared.Reading.{Reading}
-use Rattle.promises.specs.Calls as call
 use Rattle.promises.specs.Demand2.{RoundTrips, ByTheRules, Points, Demand2, with_tail}
 use Rattle.promises.proofs.Laws.Picked.{made_reply}
 use Rattle.promises.proofs.Laws.Readings.{each_reading}

@@ -1,6 +1,5 @@
 -- That bits are shared fairly: the page Demand3.
 -- Assumes nothing.
-use Prim.Native.Nat.{◌<◌}
 use native.Mathlib.Omega.{arith}
 use Rattle.allotment.proofs.Laws.Fair as allotment
 use Rattle.promises.specs.Demand3.{Demand3, score, rate}

@@ -4,7 +4,7 @@ use mathlib.Core.Path.{◌≡◌, refl, sym, subst}
 use mathlib.Core.Bool.{Bool, true, false, ◌&&◌}
 use mathlib.Core.List.{List, [], ◌∷◌, ◌++◌}
 use mathlib.Core.Option.{Option, some, none}
-use Prim.Native.Nat.{ℕ, suc, ◌+◌, ◌-◌, ◌^◌}
+use Prim.Native.Nat.{ℕ, suc, ◌-◌, ◌^◌}
 use lib.Dec.{eqb, ltb, leb}
 use lib.IntN.{ℤ}
 use lib.ListN.{length}
@@ -38,7 +38,7 @@ use Rattle.points.specs.declared.Point.{Point}
 use Rattle.points.specs.declared.Index.{Index}
 use Rattle.codebook.specs.Codebook.{eight, book, place_of, row_point, row_index}
 use Rattle.codebook.specs.declared.Row.{Row}
-use Rattle.frame.specs.Answers.{Outcome, empty, read_answer, reading_of}
+use Rattle.frame.specs.Answers.{Outcome, read_answer, reading_of}
 use Rattle.frame.specs.declared.Record.{Record}
 use Rattle.writer.specs.Empty.{empty_reply}
 use Rattle.layout.specs.Parts.{start_causes, code_causes, layout_causes, layout_of}

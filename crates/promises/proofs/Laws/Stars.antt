@@ -2,26 +2,23 @@
 -- Assumes nothing.
 use mathlib.Core.Path.{◌≡◌, refl, ap, ◌∙◌}
 use mathlib.Core.Bool.{Bool, true, false}
-use mathlib.Core.List.{List, [], ◌∷◌, ◌++◌}
-use Prim.Native.Nat.{ℕ, ◌+◌}
-use lib.IntN.{pos, negsuc}
-use lib.ListN.{take, drop, replicate}
+use mathlib.Core.List.{List, [], ◌∷◌}
+use Prim.Native.Nat.{ℕ}
+use lib.ListN.{take, drop}
 use Rattle.bits.specs.Bits.{word, val, bytes_of}
 use Rattle.bits.specs.Codings.{word_of}
 use Rattle.bits.specs.Codecs.{write_all}
 use Rattle.norm_words.specs.Table16.{table16}
 use Rattle.words.specs.Tables.{coding, words}
 use Rattle.prefix.specs.Sizes.{table_a2, length_bytes, mode_bytes, table22}
-use Rattle.prefix.specs.Prefix.{prefix_of, prefix_byte, reading_of as prefix_reading}
+use Rattle.prefix.specs.Prefix.{prefix_of, prefix_byte}
 use Rattle.prefix.proofs.Examples as prefix
 use Rattle.order.specs.SentOrder.{sent}
 use Rattle.norms.specs.Steps.{numbers}
 use Rattle.norms.specs.Part.{norm_kinds, norm_bits}
-use Rattle.weights.specs.Weights.{weighed}
 use Rattle.weights.proofs.Examples as weights
 use Rattle.allotment.specs.Allotment.{shares_of}
 use Rattle.promises.proofs.Laws.SharingExamples as allotment
-use Rattle.points.specs.Answers.{point_of}
 use Rattle.points.proofs.Examples as lattice
 use Rattle.kinds.specs.Budget.{noise_bits, all_compete}
 use Rattle.frame.specs.Layout.{budget_of}
@@ -29,11 +26,7 @@ use Rattle.frame.specs.Answers.{read_answer, reading_of, stopped_at}
 use Rattle.writer.specs.Writes.{bytes_for}
 use Rattle.writer.specs.Bodies.{body_bits}
 use Rattle.writer.proofs.Laws.Bodies.{body_is}
-use Rattle.frame.specs.declared.Record.{Record}
-use Rattle.listing.specs.Text.{ascii}
-use Rattle.listing.specs.Listing.{listing_of}
 use Rattle.listing.proofs.Examples as listing
-use Rattle.recording.specs.Walk.{check_of}
 use Rattle.recording.proofs.Examples as recording
 use Rattle.promises.specs.Stars.{All, done, also, twenties, flags, small, starred}
 
