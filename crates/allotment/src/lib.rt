@@ -12,7 +12,7 @@ ghost use Rattle.allotment.specs.Allotment.{shares_of};
 use ground::replies::{DONE, OUT_OF_RANGE};
 
 #[repr(C)]
-#[derive(Drop)]
+#[derive(Clone, Copy)]
 pub struct Shares {
     pub reply: u8,
     pub rates: [u8; 44],

@@ -10,7 +10,7 @@ ghost use Rattle.bits.specs.Codings.{reply_of};
 use ground::replies::{NO_WORD, NORM_OUTSIDE, PAST_BUDGET};
 
 // Why a value cannot be read off the front of some bits.
-#[derive(Drop)]
+#[derive(Clone, Copy)]
 pub enum Refusal {
     // A norm index outside 0 to 39.
     Outside,

@@ -11,7 +11,7 @@ use ground::replies::DONE;
 
 // What reading a block answers: 0 with the place behind it and what each frame reads as, 14 among them for a frame without data; or the reply alone.
 #[repr(C)]
-#[derive(Drop)]
+#[derive(Clone, Copy)]
 pub struct Block {
     pub reply: u8,
     pub next: usize,

@@ -10,7 +10,7 @@ use ground::replies::{DONE, MARKED, NO_BYTE, NO_DATA, OUT_OF_RANGE, RESERVED};
 
 // What a prefix byte says: the field L, the body bytes and the next place.
 #[repr(C)]
-#[derive(Drop)]
+#[derive(Clone, Copy)]
 pub struct Prefix {
     pub reply: u8,
     pub length: u8,
@@ -20,7 +20,7 @@ pub struct Prefix {
 
 // The prefix byte of a mode.
 #[repr(C)]
-#[derive(Drop)]
+#[derive(Clone, Copy)]
 pub struct Byte {
     pub reply: u8,
     pub byte: u8,
@@ -51,7 +51,7 @@ pub struct Reading {
 
 // What reading a block answers, as C has it.
 #[repr(C)]
-#[derive(Drop)]
+#[derive(Clone, Copy)]
 pub struct Block {
     pub reply: u8,
     pub next: usize,
@@ -60,7 +60,7 @@ pub struct Block {
 
 // What a block is written from, as C has it: an empty frame where the number is not 0.
 #[repr(C)]
-#[derive(Drop)]
+#[derive(Clone, Copy)]
 pub struct Records {
     pub at: [Record; 8],
     pub empty: [u8; 8],
@@ -68,7 +68,7 @@ pub struct Records {
 
 // What a choice answers, as C has it: the flag is 0 or 1.
 #[repr(C)]
-#[derive(Drop)]
+#[derive(Clone, Copy)]
 pub struct Choice {
     pub reply: u8,
     pub flag: u8,

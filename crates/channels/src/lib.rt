@@ -11,7 +11,7 @@ use recording::answer::Check;
 // What copying answers: 0 with the count of the blocks and the bytes written; a recording that is refused with its number, from 1 in a join, and the
 // check's own count and place; or the reply alone.
 #[repr(C)]
-#[derive(Drop)]
+#[derive(Clone, Copy)]
 pub struct Copied {
     pub reply: u8,
     pub which: u8,

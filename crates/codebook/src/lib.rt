@@ -16,7 +16,7 @@ use tables::{SIGNS, TWOS};
 pub mod tables;
 
 #[repr(C)]
-#[derive(Drop)]
+#[derive(Clone, Copy)]
 pub struct Row {
     pub reply: u8,
     pub index: u8,

@@ -12,7 +12,7 @@ use channels::Copied;
 use ground::replies::{DONE, SHORT_ROOM, WRONG_CHANNELS};
 
 // Where the joining stands: the blocks laid, where the next frame of each recording begins, and where the output goes on.
-#[derive(Drop)]
+#[derive(Clone, Copy)]
 pub struct Progress {
     pub block: u32,
     pub places: [usize; 8],

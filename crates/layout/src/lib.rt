@@ -16,7 +16,7 @@ use kinds::Flags;
 use prefix::Mode;
 
 // What a record's flags and norms say of its frame: the budget, the rates of the 44 bands, and the kinds of the 800 places.
-#[derive(Drop)]
+#[derive(Clone, Copy)]
 pub struct Plan {
     pub budget: usize,
     pub rates: [u8; 44],
@@ -25,7 +25,7 @@ pub struct Plan {
 
 // How a frame's bits part, behind flags and norms: the budget, the rates by which it is shared, the bits of the codes, and those left for the tail.
 #[repr(C)]
-#[derive(Drop)]
+#[derive(Clone, Copy)]
 pub struct Parts {
     pub reply: u8,
     pub budget: u16,

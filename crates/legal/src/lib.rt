@@ -11,7 +11,7 @@ use ground::replies::{DONE, OUT_OF_RANGE};
 
 // What legalising answers: 0 with the legal norms in band order, or 8 with zeros.
 #[repr(C)]
-#[derive(Drop)]
+#[derive(Clone, Copy)]
 pub struct Legal {
     pub reply: u8,
     pub norms: [u8; 44],

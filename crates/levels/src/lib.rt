@@ -12,7 +12,7 @@ ghost use Rattle.levels.specs.Levels.{Room, settled};
 
 use ground::numbers::{larger16, minus16};
 
-#[derive(Drop)]
+#[derive(Clone, Copy)]
 pub struct Ends {
     pub rates: [u8; 44],
     pub left: u16,

@@ -22,14 +22,14 @@ pub const ROOM: usize = 33030;
 
 // What listing answers: 0 with the length of the text, or 10.
 #[repr(C)]
-#[derive(Drop)]
+#[derive(Clone, Copy)]
 pub struct Listing {
     pub reply: u8,
     pub length: usize,
 }
 
 // What the walk over the frames answers, and the place after their lines.
-#[derive(Drop)]
+#[derive(Clone, Copy)]
 pub struct Lines {
     pub reply: u8,
     pub count: u32,

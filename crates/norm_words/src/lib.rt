@@ -8,14 +8,14 @@ ghost use Rattle.norm_words.specs.Shape.{word_in, middle, at_least, more_bits, s
 use ground::numbers::size_from_u8;
 
 // A word among seven bits: the number that it names, and how many of the bits it has.
-#[derive(Drop)]
+#[derive(Clone, Copy)]
 pub struct Found {
     pub number: usize,
     pub bits: usize,
 }
 
 // A word as so many bits of a number.
-#[derive(Drop)]
+#[derive(Clone, Copy)]
 pub struct Spelling {
     pub bits: usize,
     pub value: usize,

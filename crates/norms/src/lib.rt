@@ -15,7 +15,7 @@ use ground::replies::{DONE, FAR_APART, NORM_OUTSIDE, OUT_OF_RANGE};
 use runs::Run;
 
 // What reading the norm part answers: 0 with the next place and the norms in band order, or 5 or 7 with zeros.
-#[derive(Drop)]
+#[derive(Clone, Copy)]
 pub struct NormPart {
     pub reply: u8,
     pub next: usize,
@@ -24,7 +24,7 @@ pub struct NormPart {
 
 // What a choice of a flag answers.
 #[repr(C)]
-#[derive(Drop)]
+#[derive(Clone, Copy)]
 pub struct Choice {
     pub reply: u8,
     pub flag: bool,

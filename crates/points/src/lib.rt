@@ -11,14 +11,14 @@ use ground::numbers::{raise, u32_from_u16};
 use ground::replies::{DONE, OUT_OF_RANGE};
 
 #[repr(C)]
-#[derive(Drop)]
+#[derive(Clone, Copy)]
 pub struct Point {
     pub reply: u8,
     pub at: [i16; 8],
 }
 
 #[repr(C)]
-#[derive(Drop)]
+#[derive(Clone, Copy)]
 pub struct Index {
     pub reply: u8,
     pub at: [u16; 8],

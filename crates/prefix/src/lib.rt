@@ -18,21 +18,21 @@ pub struct Mode(pub u8);
 pub struct Length(pub u8);
 
 // The field L of a mode: none for a number that is no mode.
-#[derive(Drop)]
+#[derive(Clone, Copy)]
 pub enum NamedField {
     Is(Length),
     None,
 }
 
 // The mode of a field L: none where L says no data or is reserved.
-#[derive(Drop)]
+#[derive(Clone, Copy)]
 pub enum NamedMode {
     Is(Mode),
     None,
 }
 
 // What a prefix byte says.
-#[derive(Drop)]
+#[derive(Clone, Copy)]
 pub enum Prefix {
     // A body of as many bytes as L says follows.
     Data(Length),
@@ -44,7 +44,7 @@ pub enum Prefix {
 }
 
 // The prefix byte of a mode.
-#[derive(Drop)]
+#[derive(Clone, Copy)]
 pub enum Byte {
     Is(u8),
     OutOfRange,

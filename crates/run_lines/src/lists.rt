@@ -21,7 +21,7 @@ struct Item {
 }
 
 // How many places a list has filled, and the place after the list.
-#[derive(Drop)]
+#[derive(Clone, Copy)]
 pub struct Filled {
     pub count: usize,
     pub next: usize,

@@ -6,7 +6,7 @@ use crate::numbers::low;
 use frame::Record;
 
 // A record, and the place after its two lists.
-#[derive(Drop)]
+#[derive(Clone, Copy)]
 pub struct Given {
     pub record: Record,
     pub next: usize,

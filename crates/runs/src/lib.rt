@@ -15,7 +15,7 @@ use ground::replies::DONE;
 use words::Word;
 
 // The next place after a run of words, or the first refusal.
-#[derive(Drop)]
+#[derive(Clone, Copy)]
 pub enum Run {
     Done(usize),
     No(Refusal),

@@ -18,7 +18,7 @@ use ground::numbers::{larger16, lower, minus16, smaller16, u16_from_u8, u32_from
 use ground::replies::{DONE, OUT_OF_RANGE};
 
 #[repr(C)]
-#[derive(Drop)]
+#[derive(Clone, Copy)]
 pub struct Weights {
     pub reply: u8,
     pub weights: [u8; 44],

@@ -28,7 +28,7 @@ const FIRST_WORDS: usize = 16;
 pub const NORM_WORDS: u8 = 20;
 
 // A number with its next place, or a refusal.
-#[derive(Drop)]
+#[derive(Clone, Copy)]
 pub enum Word {
     At(u16, usize),
     No(Refusal),

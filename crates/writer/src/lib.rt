@@ -19,7 +19,7 @@ use prefix::{Byte, Mode};
 
 // What writing answers: 0 with the next place, or the reply alone.
 #[repr(C)]
-#[derive(Drop)]
+#[derive(Clone, Copy)]
 pub struct Writing {
     pub reply: u8,
     pub next: usize,
