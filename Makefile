@@ -43,10 +43,11 @@ MAKEFLAGS += --no-builtin-rules
 all: $(made)/libg719.a $(made)/g719.pc
 
 ifeq ($(origin LIBRARY),file)
-$(LIBRARY): crates.txt $(shell find crates)
+$(LIBRARY): crates.txt $(shell find crates -name out -prune -o -print)
 	@command -v rt >/dev/null || { echo 'rt is missing: the Rattle kit brings it; LIBRARY=FILE takes an archive that was built before' >&2; exit 1; }
 	@echo 'the library is proved and built: 3 to 6 minutes from nothing'
 	tools/build g719
+	touch $@
 endif
 
 $(made):

@@ -9,7 +9,7 @@ if [ "$(uname -m)" = x86_64 ]; then
 else
   # Debian's cross compiler and emulator; the kit's emulator serves C if Debian's is not there
   compiler=x86_64-linux-gnu-gcc
-  emulator=$(command -v qemu-x86_64) || emulator=$(dirname "$(dirname "$(rt doc)")")/on/$(uname -m)/toolchain/bin/qemu-x86_64
+  emulator=$(command -v qemu-x86_64) || emulator=$(dirname "$(rt doc)")/on/$(uname -m)/toolchain/bin/qemu-x86_64
   libraries=/usr/x86_64-linux-gnu
   if [ -e /lib64/ld-linux-x86-64.so.2 ]; then libraries=/; fi
   starter=("$emulator" -L "$libraries")

@@ -81,7 +81,7 @@ fn output_room() -> [u8; 33030]
     [0; 33030]
 }
 
-// Writes to standard output. A program of Rattle has no exit status, so a failure is told on standard error.
+// Writes to standard output. The lister ends with 0 whatever happens, so a failure is told on standard error.
 fn write_out(text: &[u8]) {
     if !io::write_all(STDOUT_FILENO, text) {
         io::write_all(STDERR_FILENO, b"output not written\n");
