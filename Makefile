@@ -6,7 +6,7 @@
 # make install-command    puts it into BINDIR, PREFIX/bin if not given
 # make clean              removes target/make
 #
-# `tools/build g719` proves the library before it builds it: 3 to 6 minutes from nothing, half a minute if nothing has changed. So it is called
+# `tools/build g719` proves the library before it builds it: some minutes from nothing, seconds if nothing has changed. So it is called
 # only if the archive is missing or older than something in crates/. LIBRARY=FILE takes an archive that was built before, and rt is not called.
 
 PREFIX ?= /usr/local
@@ -45,7 +45,7 @@ all: $(made)/libg719.a $(made)/g719.pc
 ifeq ($(origin LIBRARY),file)
 $(LIBRARY): crates.txt $(shell find crates -name out -prune -o -print)
 	@command -v rt >/dev/null || { echo 'rt is missing: the Rattle kit brings it; LIBRARY=FILE takes an archive that was built before' >&2; exit 1; }
-	@echo 'the library is proved and built: 3 to 6 minutes from nothing'
+	@echo 'the library is proved and built: some minutes from nothing'
 	tools/build g719
 	touch $@
 endif
