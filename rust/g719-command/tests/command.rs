@@ -8,6 +8,8 @@ use std::io::Write;
 use std::os::unix::fs::{symlink, FileTypeExt, MetadataExt, PermissionsExt};
 use std::os::unix::process::CommandExt;
 use std::process::Stdio;
+use std::thread::sleep;
+use std::time::Duration;
 
 const CHECK_USAGE: &str = "usage: g719 check FILE... --booked N [--channels C]\n";
 
@@ -205,7 +207,15 @@ fn no_permission() {
         if fs::metadata("/proc/self").unwrap().uid() == 0 {
             command.uid(65_534);
         }
-        Run::from(command.output().unwrap())
+        // A test beside this one that starts a program at the very moment of the copy holds the copy open for
+        // writing until that program runs: then it is busy (26), and soon is not.
+        for _ in 0..500 {
+            match command.output() {
+                Err(busy) if busy.raw_os_error() == Some(26) => sleep(Duration::from_millis(10)),
+                answer => return Run::from(answer.unwrap()),
+            }
+        }
+        panic!("the copy of the command stays busy")
     };
     let unread = run(&["check", "report", "--booked", "3"]);
     allow("report", 0o444);
