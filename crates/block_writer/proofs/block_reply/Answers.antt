@@ -1,11 +1,6 @@
 -- `block_writer::block_reply` meets its contract: the rooms, the frames' causes, and last the output. Assumes nothing.
-use lib.ListN.{length}
-use mathlib.Core.Path.{◌≡◌, sym, ◌∙◌}
+use mathlib.Core.Path.{sym, ◌∙◌}
 use native.Mathlib.Omega.{arith}
-use Rattle.ground.specs.Refusals.{first}
-use Rattle.ground.specs.Runs.{runs}
-use Rattle.frames.specs.Rooms.{room_causes}
-use Rattle.block_writer.specs.Writing.{causes_at}
 use Rattle.frames.proofs.Laws.Rooms.{rooms_told}
 use Rattle.block_writer.proofs.Laws.Writing.{block_long, block_early, block_late, block_short, block_done}
 use Rattle.block_writer.proofs.block_reply.Goals as goal
@@ -16,7 +11,7 @@ returns-then-early-ne-DONE c =
 
 pub frames_reply-late-requires : goal.frames_reply-late-requires
 frames_reply-late-requires c =
-    let rooms : first (room_causes c.args.channels (length c.args.codes.now) (length c.args.tails.now)) ≡ 0 = sym c.room_reply-early.ensures ∙ c.if-early-ne-DONE.false in
+    let rooms = sym c.room_reply-early.ensures ∙ c.if-early-ne-DONE.false in
     let r = rooms_told _ _ _ rooms in
     (r.few, r.numbers, r.bytes)
 
@@ -26,19 +21,19 @@ returns-then-late-ne-DONE c =
 
 pub block_bytes-requires : goal.block_bytes-requires
 block_bytes-requires c =
-    let rooms : first (room_causes c.args.channels (length c.args.codes.now) (length c.args.tails.now)) ≡ 0 = sym c.room_reply-early.ensures ∙ c.if-early-ne-DONE.false in
+    let rooms = sym c.room_reply-early.ensures ∙ c.if-early-ne-DONE.false in
     (rooms_told _ _ _ rooms).few
 
 pub returns-then-room-block_bytes : goal.returns-then-room-block_bytes
 returns-then-room-block_bytes c =
-    let rooms : first (room_causes c.args.channels (length c.args.codes.now) (length c.args.tails.now)) ≡ 0 = sym c.room_reply-early.ensures ∙ c.if-early-ne-DONE.false in
-    let frames : first (runs c.args.channels (causes_at c.args.records c.args.codes.now c.args.tails.now)) ≡ 0 = sym c.frames_reply-late.ensures ∙ c.if-late-ne-DONE.false in
+    let rooms = sym c.room_reply-early.ensures ∙ c.if-early-ne-DONE.false in
+    let frames = sym c.frames_reply-late.ensures ∙ c.if-late-ne-DONE.false in
     block_short _ _ _ _ _ rooms frames
     (omega (arith, c.block_bytes.ensures, block_long c.args.records c.args.codes.now c.args.tails.now c.args.channels))
 
 pub returns : goal.returns
 returns c =
-    let rooms : first (room_causes c.args.channels (length c.args.codes.now) (length c.args.tails.now)) ≡ 0 = sym c.room_reply-early.ensures ∙ c.if-early-ne-DONE.false in
-    let frames : first (runs c.args.channels (causes_at c.args.records c.args.codes.now c.args.tails.now)) ≡ 0 = sym c.frames_reply-late.ensures ∙ c.if-late-ne-DONE.false in
+    let rooms = sym c.room_reply-early.ensures ∙ c.if-early-ne-DONE.false in
+    let frames = sym c.frames_reply-late.ensures ∙ c.if-late-ne-DONE.false in
     block_done _ _ _ _ _ rooms frames
     (omega (arith, c.block_bytes.ensures, block_long c.args.records c.args.codes.now c.args.tails.now c.args.channels))

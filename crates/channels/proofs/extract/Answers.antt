@@ -1,8 +1,6 @@
 -- `channels::extract` meets its contract, in 02's order. Assumes nothing.
-use mathlib.Core.Bool.{true}
-use mathlib.Core.Path.{◌≡◌, sym, ◌∙◌}
+use mathlib.Core.Path.{sym, ◌∙◌}
 use native.Mathlib.Omega.{arith}
-use Rattle.channels.specs.Copies.{is_among}
 use Rattle.channels.proofs.Laws.Extracting.{among_told, extract_outside, extract_stopped, extract_short, extract_done}
 use Rattle.channels.proofs.extract.Goals as goal
 
@@ -12,25 +10,25 @@ returns-then-not-is_among c =
 
 pub walk_blocks-found-requires : goal.walk_blocks-found-requires
 walk_blocks-found-requires c =
-    let among : is_among c.args.channels c.args.channel ≡ true = sym c.is_among.ensures ∙ c.if-not-is_among.false in
+    let among = sym c.is_among.ensures ∙ c.if-not-is_among.false in
     (among_told _ _ among).0
 
 pub returns-then-reply-ne-DONE : goal.returns-then-reply-ne-DONE
 returns-then-reply-ne-DONE c =
-    let among : is_among c.args.channels c.args.channel ≡ true = sym c.is_among.ensures ∙ c.if-not-is_among.false in
+    let among = sym c.is_among.ensures ∙ c.if-not-is_among.false in
     extract_stopped _ _ _ _ among _ c.walk_blocks-found.ensures _ (λ z. omega arith) c.stopped.ensures
 
 pub channel_bytes-length-requires : goal.channel_bytes-length-requires
 channel_bytes-length-requires c =
-    let among : is_among c.args.channels c.args.channel ≡ true = sym c.is_among.ensures ∙ c.if-not-is_among.false in
+    let among = sym c.is_among.ensures ∙ c.if-not-is_among.false in
     (among_told _ _ among).0
 
 pub returns-then-out-length : goal.returns-then-out-length
 returns-then-out-length c =
-    let among : is_among c.args.channels c.args.channel ≡ true = sym c.is_among.ensures ∙ c.if-not-is_among.false in
+    let among = sym c.is_among.ensures ∙ c.if-not-is_among.false in
     extract_short _ _ _ _ among _ c.walk_blocks-found.ensures (omega arith) _ c.channel_bytes-length.ensures _ (omega arith) c.refusal-then-out-length.ensures
 
 pub returns : goal.returns
 returns c =
-    let among : is_among c.args.channels c.args.channel ≡ true = sym c.is_among.ensures ∙ c.if-not-is_among.false in
+    let among = sym c.is_among.ensures ∙ c.if-not-is_among.false in
     extract_done _ _ _ _ among _ c.walk_blocks-found.ensures (omega arith) _ c.channel_bytes-length.ensures _ (omega arith) c.copy_channel.ensures

@@ -13,7 +13,8 @@ loop-i-init c =
 
 pub overflow_add-p : goal.overflow_add-p
 overflow_add-p c =
-    let more : c.loop-i.p + c.size_at-p.result ≡ place_from c.args.src.now c.args.at (c.loop-i.i + 1) = ap (λ (k : ℕ). c.loop-i.p + k) c.size_at-p.ensures ∙ ap (λ (q : ℕ). q + size_at (drop q c.args.src.now)) c.loop-i.invariant.0
+    let more : c.loop-i.p + c.size_at-p.result ≡ place_from c.args.src.now c.args.at (c.loop-i.i + 1) =
+    ap (λ (k : ℕ). c.loop-i.p + k) c.size_at-p.ensures ∙ ap (λ (q : ℕ). q + size_at (drop q c.args.src.now)) c.loop-i.invariant.0
     ∙ sym (place_more c.args.src.now c.args.at c.loop-i.i) in
     omega (arith, more, place_inside c.args.src.now c.args.at (c.loop-i.i + 1) c.requires)
 

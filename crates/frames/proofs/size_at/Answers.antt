@@ -1,7 +1,9 @@
 -- `frames::size_at` meets its contract: what is said, or what is there. Assumes nothing.
-use mathlib.Core.Path.{◌≡◌, sym, ap, ◌∙◌}
+use mathlib.Core.Path.{sym, ap, ◌∙◌}
 use native.Mathlib.Omega.{arith}
 use lib.ListN.{drop, length-drop}
+use mathlib.Core.List.{List}
+use Prim.Native.Nat.{ℕ}
 use Rattle.prefix.specs.Prefix.{prefix_of}
 use Rattle.recording.proofs.Laws.Reads.{lent}
 use Rattle.frames.specs.Places.{said_bytes}
@@ -14,12 +16,12 @@ returns-then-src-at c =
 
 pub returns-then-left-said : goal.returns-then-left-said
 returns-then-left-said c =
-    let said : c.said_bytes-said.result ≡ said_bytes (prefix_of (drop c.args.at c.args.src.now)) = c.said_bytes-said.ensures ∙ ap (λ (s : _). said_bytes (prefix_of s)) (lent c.args.src.now c.args.at) in
+    let said = c.said_bytes-said.ensures ∙ ap (λ (s : List ℕ). said_bytes (prefix_of s)) (lent c.args.src.now c.args.at) in
     let l = length-drop c.args.at c.args.src.now in
     sym l ∙ size_short (drop c.args.at c.args.src.now) c.said_bytes-said.result said (omega (arith, l))
 
 pub returns : goal.returns
 returns c =
-    let said : c.said_bytes-said.result ≡ said_bytes (prefix_of (drop c.args.at c.args.src.now)) = c.said_bytes-said.ensures ∙ ap (λ (s : _). said_bytes (prefix_of s)) (lent c.args.src.now c.args.at) in
+    let said = c.said_bytes-said.ensures ∙ ap (λ (s : List ℕ). said_bytes (prefix_of s)) (lent c.args.src.now c.args.at) in
     let l = length-drop c.args.at c.args.src.now in
     size_said (drop c.args.at c.args.src.now) c.said_bytes-said.result said (omega (arith, l))

@@ -1,15 +1,21 @@
 -- `joining::join` meets its contract, in 02's order: each refusal leaves the output, and 0 lays the blocks at its front. Assumes nothing.
-use Prim.Native.Nat.{◌≤◌}
+use Prim.Native.Nat.{ℕ, ◌≤◌}
+use mathlib.Core.List.{List}
 use lib.ListN.{length}
 use mathlib.Core.Bool.{true}
 use mathlib.Core.Path.{◌≡◌, sym, ◌∙◌}
 use native.Mathlib.Omega.{arith}
 use Rattle.recording.specs.Blocks.{is_count}
 use Rattle.recording.proofs.Laws.Blocks.{counted}
-use Rattle.joining.specs.Joining.{InSource}
+use Rattle.joining.specs.Joining.{InSource, start_of}
 use Rattle.joining.proofs.Laws.Joining.{join_uncounted, join_past, join_stopped, join_kept, same_reply, found_few, found_long, found_short, found_joined}
 use Rattle.joining.proofs.Laws.Joining.{found_after}
 use Rattle.joining.proofs.join.Goals as goal
+
+-- the recordings lie in the source
+lies : (src lengths : List ℕ) {total : ℕ} → is_count (length lengths) ≡ true → total ≡ start_of lengths (length lengths) → total ≤ length src
+    → InSource src lengths
+lies src lengths few e h = record { few = (counted _ few).1; inside = omega (arith, e) }
 
 pub returns-then-not-is_count : goal.returns-then-not-is_count
 returns-then-not-is_count c =
@@ -18,28 +24,25 @@ returns-then-not-is_count c =
 
 pub start_of-total-requires : goal.start_of-total-requires
 start_of-total-requires c =
-    let few : is_count (length c.args.lengths.now) ≡ true = sym c.is_count.ensures ∙ c.if-not-is_count.false in
-    let range : (1 ≤ length c.args.lengths.now) × (length c.args.lengths.now ≤ 8) = counted _ few in
-    let r = range in (omega arith, r.1)
+    let few = sym c.is_count.ensures ∙ c.if-not-is_count.false in
+    (omega arith, (counted _ few).1)
 
 pub returns-then-src-total : goal.returns-then-src-total
 returns-then-src-total c =
-    let few : is_count (length c.args.lengths.now) ≡ true = sym c.is_count.ensures ∙ c.if-not-is_count.false in
+    let few = sym c.is_count.ensures ∙ c.if-not-is_count.false in
     let q = join_past c.args.src.now c.args.lengths.now c.args.out.now few (omega (arith, c.start_of-total.ensures.0)) in
     (c.refusal-then-src-total.ensures ∙ sym q, join_kept c.args.src.now c.args.lengths.now c.args.out.now _ q (λ z. omega arith))
 
 pub check_all-found-requires : goal.check_all-found-requires
 check_all-found-requires c =
-    let few : is_count (length c.args.lengths.now) ≡ true = sym c.is_count.ensures ∙ c.if-not-is_count.false in
-    let range : (1 ≤ length c.args.lengths.now) × (length c.args.lengths.now ≤ 8) = counted _ few in
-    let lying : InSource c.args.src.now c.args.lengths.now = record { few = range.1; inside = omega (arith, c.start_of-total.ensures.0) } in
-    (lying, range.0)
+    let few = sym c.is_count.ensures ∙ c.if-not-is_count.false in
+    let lying = lies c.args.src.now _ few c.start_of-total.ensures.0 (omega arith) in
+    (lying, (counted _ few).0)
 
 pub returns-then-reply-ne-DONE : goal.returns-then-reply-ne-DONE
 returns-then-reply-ne-DONE c =
-    let few : is_count (length c.args.lengths.now) ≡ true = sym c.is_count.ensures ∙ c.if-not-is_count.false in
-    let range : (1 ≤ length c.args.lengths.now) × (length c.args.lengths.now ≤ 8) = counted _ few in
-    let lying : InSource c.args.src.now c.args.lengths.now = record { few = range.1; inside = omega (arith, c.start_of-total.ensures.0) } in
+    let few = sym c.is_count.ensures ∙ c.if-not-is_count.false in
+    let lying = lies c.args.src.now _ few c.start_of-total.ensures.0 (omega arith) in
     let q = join_stopped c.args.src.now c.args.lengths.now c.args.out.now few lying.inside
     (λ z. omega (arith, same_reply c.check_all-found.ensures)) in (
       c.check_all-found.ensures ∙ sym q,
@@ -48,17 +51,15 @@ returns-then-reply-ne-DONE c =
 
 pub returns-then-out-total : goal.returns-then-out-total
 returns-then-out-total c =
-    let few : is_count (length c.args.lengths.now) ≡ true = sym c.is_count.ensures ∙ c.if-not-is_count.false in
-    let range : (1 ≤ length c.args.lengths.now) × (length c.args.lengths.now ≤ 8) = counted _ few in
-    let lying : InSource c.args.src.now c.args.lengths.now = record { few = range.1; inside = omega (arith, c.start_of-total.ensures.0) } in
+    let few = sym c.is_count.ensures ∙ c.if-not-is_count.false in
+    let lying = lies c.args.src.now _ few c.start_of-total.ensures.0 (omega arith) in
     let q = found_short few lying c.check_all-found.ensures (omega arith) c.args.out.now (omega (arith, c.start_of-total.ensures.0)) in
     (c.refusal-then-out-total.ensures ∙ sym q, join_kept c.args.src.now c.args.lengths.now c.args.out.now _ q (λ z. omega arith))
 
 pub join_blocks-requires : goal.join_blocks-requires
 join_blocks-requires c =
-    let few : is_count (length c.args.lengths.now) ≡ true = sym c.is_count.ensures ∙ c.if-not-is_count.false in
-    let range : (1 ≤ length c.args.lengths.now) × (length c.args.lengths.now ≤ 8) = counted _ few in
-    let lying : InSource c.args.src.now c.args.lengths.now = record { few = range.1; inside = omega (arith, c.start_of-total.ensures.0) } in (
+    let few = sym c.is_count.ensures ∙ c.if-not-is_count.false in
+    let lying = lies c.args.src.now _ few c.start_of-total.ensures.0 (omega arith) in (
       lying,
       found_few few lying c.check_all-found.ensures (omega arith),
       omega (arith, c.start_of-total.ensures.0, found_long few lying c.check_all-found.ensures (omega arith)),
@@ -66,9 +67,8 @@ join_blocks-requires c =
 
 pub returns : goal.returns
 returns c =
-    let few : is_count (length c.args.lengths.now) ≡ true = sym c.is_count.ensures ∙ c.if-not-is_count.false in
-    let range : (1 ≤ length c.args.lengths.now) × (length c.args.lengths.now ≤ 8) = counted _ few in
-    let lying : InSource c.args.src.now c.args.lengths.now = record { few = range.1; inside = omega (arith, c.start_of-total.ensures.0) } in (
+    let few = sym c.is_count.ensures ∙ c.if-not-is_count.false in
+    let lying = lies c.args.src.now _ few c.start_of-total.ensures.0 (omega arith) in (
       sym (found_joined few lying c.check_all-found.ensures (omega arith) c.args.out.now c.start_of-total.ensures.0 (omega arith)),
       found_after few lying c.check_all-found.ensures (omega arith) c.args.out.now c.start_of-total.ensures.0 (omega arith)
           c.join_blocks.ensures,

@@ -31,6 +31,10 @@ pub length_total : (count reply place : ℕ)
 unfolding total_line
 length_total count reply place = simp length-append (omega arith)
 
+-- equal numbers have digits equally many
+pub same_digits : {a b : ℕ} → a ≡ b → length (decimal a) ≡ length (decimal b)
+same_digits e = ap (λ (n : ℕ). length (decimal n)) e
+
 -- ---- the lines
 
 line_short : (number : ℕ) (s : List ℕ) (o : Outcome) → Fits s o → (rest : ℕ → List ℕ) (n : ℕ) → ((k : ℕ) → length (rest k) ≤ n)

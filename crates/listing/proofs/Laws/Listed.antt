@@ -117,6 +117,10 @@ pub record AtStep (src out₀ out : List ℕ) (next count place : ℕ) (p : Pass
   pub listed : Listed src out₀ out next count place
   pub told : p ≡ passing_of (next_step frame_step (most_frames - count) (drop place src))
 
+pub at_step : {src out₀ out : List ℕ} {next count place : ℕ} {p : Passing} → Listed src out₀ out next count place
+    → p ≡ passing_of (next_step frame_step (most_frames - count) (drop place src)) → AtStep src out₀ out next count place p
+at_step listed told = record { listed = listed; told = told }
+
 module _ {src out₀ out : List ℕ} {next count place : ℕ} {p : Passing} (T : AtStep src out₀ out next count place p) where
   P : Listed src out₀ out next count place
   P = T.listed

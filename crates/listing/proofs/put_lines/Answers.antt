@@ -3,7 +3,7 @@ use mathlib.Core.Path.{sym, subst}
 use native.Mathlib.Omega.{arith}
 use Rattle.recording.proofs.Laws.Blocks.{one_told}
 use Rattle.listing.specs.Inner.{Complete}
-use Rattle.listing.proofs.Laws.Listed.{AtStep, listed_none, listed_inside, listed_room, listed_end, listed_more}
+use Rattle.listing.proofs.Laws.Listed.{at_step, listed_none, listed_inside, listed_room, listed_end, listed_more}
 use Rattle.listing.proofs.put_lines.Goals as goal
 
 pub loop-one-init : goal.loop-one-init
@@ -12,31 +12,26 @@ loop-one-init c =
 
 pub put_step-next-requires : goal.put_step-next-requires
 put_step-next-requires c =
-    let told : AtStep c.args.src.now c.args.out.now c.loop-one.out c.loop-one.next c.loop-one.count c.loop-one.place c.step-one.result =
-    record { listed = c.loop-one.invariant; told = one_told _ _ c.step-one.ensures } in
+    let told = at_step c.loop-one.invariant (one_told _ _ c.step-one.ensures) in
     (omega (arith, c.requires.0, listed_inside told), omega (arith, listed_room told c.requires.1))
 
 pub returns-then-one-eq0 : goal.returns-then-one-eq0
 returns-then-one-eq0 c =
-    let told : AtStep c.args.src.now c.args.out.now c.loop-one.out c.loop-one.next c.loop-one.count c.loop-one.place c.step-one.result =
-    record { listed = c.loop-one.invariant; told = one_told _ _ c.step-one.ensures } in
+    let told = at_step c.loop-one.invariant (one_told _ _ c.step-one.ensures) in
     subst (Complete c.args.src.now c.args.out.now c.put_step-next.new.out) (sym c.made_lines.ensures)
     (listed_end told c.put_step-next.ensures (omega arith))
 
 pub overflow_add-place : goal.overflow_add-place
 overflow_add-place c =
-    let told : AtStep c.args.src.now c.args.out.now c.loop-one.out c.loop-one.next c.loop-one.count c.loop-one.place c.step-one.result =
-    record { listed = c.loop-one.invariant; told = one_told _ _ c.step-one.ensures } in
+    let told = at_step c.loop-one.invariant (one_told _ _ c.step-one.ensures) in
     omega (arith, (listed_more told c.put_step-next.ensures (λ e. omega arith)).walked.inside)
 
 pub loop-one-smaller : goal.loop-one-smaller
 loop-one-smaller c =
-    let told : AtStep c.args.src.now c.args.out.now c.loop-one.out c.loop-one.next c.loop-one.count c.loop-one.place c.step-one.result =
-    record { listed = c.loop-one.invariant; told = one_told _ _ c.step-one.ensures } in
+    let told = at_step c.loop-one.invariant (one_told _ _ c.step-one.ensures) in
     omega (arith, (listed_more told c.put_step-next.ensures (λ e. omega arith)).walked.inside)
 
 pub loop-one-preserved : goal.loop-one-preserved
 loop-one-preserved c =
-    let told : AtStep c.args.src.now c.args.out.now c.loop-one.out c.loop-one.next c.loop-one.count c.loop-one.place c.step-one.result =
-    record { listed = c.loop-one.invariant; told = one_told _ _ c.step-one.ensures } in
+    let told = at_step c.loop-one.invariant (one_told _ _ c.step-one.ensures) in
     listed_more told c.put_step-next.ensures (λ e. omega arith)

@@ -1,33 +1,25 @@
 -- `listing::put_step` meets its contract: the line of its case, or none. Assumes nothing.
-use mathlib.Core.Path.{◌≡◌, ap}
-use Prim.Native.Nat.{◌-◌}
+use mathlib.Core.Path.{ap}
 use native.Mathlib.Omega.{arith}
 use lib.ListN.{length}
-use Rattle.ground.specs.Replies.{done, no_data}
-use Rattle.listing.specs.Text.{frame_line}
-use Rattle.listing.specs.Inner.{step_line}
 use Rattle.listing.proofs.Laws.Listed.{line_sound, line_bare, line_end, line_unread, line_refused, laid_nothing}
 use Rattle.listing.proofs.put_step.Goals as goal
 
 pub put_line-requires : goal.put_line-requires
 put_line-requires c =
-    let sound : step_line c.args.number c.args.reply c.args.bytes ≡ frame_line c.args.number done (c.args.bytes - 1) = line_sound _ _ _ (omega arith) in
-    (omega (arith, c.requires.0), omega (arith, c.requires.1, ap length sound))
+    (omega (arith, c.requires.0), omega (arith, c.requires.1, ap length (line_sound c.args.number c.args.reply c.args.bytes (omega arith))))
 
 pub returns-then-bytes-gt1 : goal.returns-then-bytes-gt1
 returns-then-bytes-gt1 c =
-    let sound : step_line c.args.number c.args.reply c.args.bytes ≡ frame_line c.args.number done (c.args.bytes - 1) = line_sound _ _ _ (omega arith) in
-    rw sound c.put_line.ensures
+    rw (line_sound c.args.number c.args.reply c.args.bytes (omega arith)) c.put_line.ensures
 
 pub put_line-requires-then-bytes-eq1 : goal.put_line-requires-then-bytes-eq1
 put_line-requires-then-bytes-eq1 c =
-    let bare : step_line c.args.number c.args.reply c.args.bytes ≡ frame_line c.args.number no_data 0 = line_bare _ _ _ (omega arith) in
-    (omega arith, omega (arith, c.requires.1, ap length bare))
+    (omega arith, omega (arith, c.requires.1, ap length (line_bare c.args.number c.args.reply c.args.bytes (omega arith))))
 
 pub returns-then-bytes-eq1 : goal.returns-then-bytes-eq1
 returns-then-bytes-eq1 c =
-    let bare : step_line c.args.number c.args.reply c.args.bytes ≡ frame_line c.args.number no_data 0 = line_bare _ _ _ (omega arith) in
-    rw bare c.put_line-then-bytes-eq1.ensures
+    rw (line_bare c.args.number c.args.reply c.args.bytes (omega arith)) c.put_line-then-bytes-eq1.ensures
 
 pub returns-then-reply-eq-DONE : goal.returns-then-reply-eq-DONE
 returns-then-reply-eq-DONE c =
@@ -39,10 +31,9 @@ returns-then-reply-eq-TOO_MANY c =
 
 pub put_line-requires-2 : goal.put_line-requires-2
 put_line-requires-2 c =
-    let refused : step_line c.args.number c.args.reply c.args.bytes ≡ frame_line c.args.number c.args.reply 0 = line_refused _ _ _ (omega arith) (λ e. omega arith) (λ e. omega arith) in
+    let refused = line_refused c.args.number c.args.reply c.args.bytes (omega arith) (λ e. omega arith) (λ e. omega arith) in
     (omega arith, omega (arith, c.requires.1, ap length refused))
 
 pub returns : goal.returns
 returns c =
-    let refused : step_line c.args.number c.args.reply c.args.bytes ≡ frame_line c.args.number c.args.reply 0 = line_refused _ _ _ (omega arith) (λ e. omega arith) (λ e. omega arith) in
-    rw refused c.put_line-2.ensures
+    rw (line_refused c.args.number c.args.reply c.args.bytes (omega arith) (λ e. omega arith) (λ e. omega arith)) c.put_line-2.ensures

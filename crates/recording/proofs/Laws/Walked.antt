@@ -52,6 +52,10 @@ pub record Stepped (unit : List ℕ → Step) (src : List ℕ) (at count : ℕ) 
   pub walked : Walked unit src at count
   pub told : p ≡ passing_of (next_step unit (most_frames - count) (drop at src))
 
+pub stepped_to : {unit : List ℕ → Step} {src : List ℕ} {at count : ℕ} {p : Passing} → Walked unit src at count
+    → p ≡ passing_of (next_step unit (most_frames - count) (drop at src)) → Stepped unit src at count p
+stepped_to walked told = record { walked = walked; told = told }
+
 module _ {unit : List ℕ → Step} {Whole : List ℕ → Type 0} (L : LawfulUnit unit Whole) {src : List ℕ} {at count : ℕ} {p : Passing}
     (S : Stepped unit src at count p) where
   -- no unit is of no bytes, so these tell a stop from a sound unit

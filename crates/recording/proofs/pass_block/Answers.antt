@@ -1,30 +1,27 @@
 -- `recording::pass_block` meets its contract: each turn passes one frame more of the block. Assumes nothing.
-use Prim.Native.Nat.{◌+◌, ℕ}
-use lib.ListN.{drop}
-use mathlib.Core.Path.{◌≡◌, ◌∙◌, sym, ap}
+use Prim.Native.Nat.{ℕ}
+use mathlib.Core.Path.{◌∙◌, sym, ap}
 use native.Mathlib.Omega.{arith}
-use Rattle.frame.specs.Answers.{reading_of}
-use Rattle.recording.specs.Walk.{stored_at}
 use Rattle.recording.specs.Blocks.{made_passing}
 use Rattle.recording.proofs.Laws.Reads.{told_record, reading_stops, reading_passes}
-use Rattle.recording.proofs.Laws.BlockSoFar.{Begun, begun_stop, begun_next, begun_end}
+use Rattle.recording.proofs.Laws.BlockSoFar.{begun_stop, begun_next, begun_end}
 use Rattle.recording.proofs.pass_block.Goals as goal
 
 pub returns-then-not-is_sound : goal.returns-then-not-is_sound
 returns-then-not-is_sound c =
-    let read : c.read_record-one.result ≡ reading_of (stored_at (drop c.loop-c.at c.args.src.now)) = told_record c.args.src.now c.loop-c.at _ c.read_record-one.ensures in
+    let read = told_record c.args.src.now c.loop-c.at _ c.read_record-one.ensures in
     c.made_passing.ensures ∙ ap (λ (x : ℕ). made_passing x 0) c.reply_behind.ensures
     ∙ begun_stop c.loop-c.invariant (omega arith) _ (reading_stops _ _ read (sym c.is_sound.ensures ∙ c.if-not-is_sound.true))
 
 pub overflow_add-at : goal.overflow_add-at
 overflow_add-at c =
-    let read : c.read_record-one.result ≡ reading_of (stored_at (drop c.loop-c.at c.args.src.now)) = told_record c.args.src.now c.loop-c.at _ c.read_record-one.ensures in
-    let more : Begun c.args.src.now c.args.channels (c.loop-c.at + c.read_record-one.result.next) (c.loop-c.c + 1) = begun_next c.loop-c.invariant (omega arith) _ (reading_passes _ _ read (sym c.is_sound.ensures ∙ c.if-not-is_sound.false)) in
+    let read = told_record c.args.src.now c.loop-c.at _ c.read_record-one.ensures in
+    let more = begun_next c.loop-c.invariant (omega arith) _ (reading_passes _ _ read (sym c.is_sound.ensures ∙ c.if-not-is_sound.false)) in
     omega (arith, more.inside)
 
 pub loop-c-preserved : goal.loop-c-preserved
 loop-c-preserved c =
-    let read : c.read_record-one.result ≡ reading_of (stored_at (drop c.loop-c.at c.args.src.now)) = told_record c.args.src.now c.loop-c.at _ c.read_record-one.ensures in
+    let read = told_record c.args.src.now c.loop-c.at _ c.read_record-one.ensures in
     begun_next c.loop-c.invariant (omega arith) _ (reading_passes _ _ read (sym c.is_sound.ensures ∙ c.if-not-is_sound.false))
 
 pub returns : goal.returns
