@@ -6,11 +6,12 @@
 ghost use Rattle.std.specs.Prelude.{◌≡◌, ℕ, ◌+◌, ◌*◌, ◌/◌, ◌%◌, ◌<◌, min, get_or, set};
 ghost use Rattle.bits.specs.Bits.{val, view, word, laid};
 ghost use Rattle.bits.specs.Codings.{reply_of};
+ghost use Rattle.ground.specs.Numbered.{number};
 
-use ground::replies::{NO_WORD, NORM_OUTSIDE, PAST_BUDGET};
+use ground::replies::Reply;
 
 // Why a value cannot be read off the front of some bits.
-#[derive(Clone, Copy)]
+#[derive(Clone, Copy, Debug, PartialEq, Eq)]
 pub enum Refusal {
     // A norm index outside 0 to 39.
     Outside,
@@ -20,14 +21,16 @@ pub enum Refusal {
     Past,
 }
 
-// The number that 01 gives a refusal.
-pub fn reply_of(refusal: Refusal) -> u8
-    ensures { result ≡ reply_of refusal }
-{
-    match refusal {
-        Refusal::Outside => NORM_OUTSIDE,
-        Refusal::Missing => NO_WORD,
-        Refusal::Past => PAST_BUDGET,
+// 01's reply for a refusal.
+impl From<Refusal> for Reply {
+    ghost from_gives = { λ refusal reply. number reply ≡ reply_of refusal };
+
+    fn from(refusal: Refusal) -> Reply {
+        match refusal {
+            Refusal::Outside => Reply::NormOutside,
+            Refusal::Missing => Reply::NoWord,
+            Refusal::Past => Reply::PastBudget,
+        }
     }
 }
 
@@ -35,7 +38,7 @@ pub fn reply_of(refusal: Refusal) -> u8
 fn byte_at(s: &[u8], i: usize) -> usize
     ensures { (result ≡ get_or s.now i 0) × (result < 256) }
 {
-    if i < s.len() { s[i] as usize } else { 0 }
+    usize::from(s.get(i).copied().unwrap_or(0))
 }
 
 // The byte x at place i; past the end nothing changes.
@@ -53,7 +56,7 @@ fn window(s: &[u8], i: usize) -> usize
     ensures { result ≡ val (view s.now (i * 8) 24) }
 {
     if i + 2 < s.len() {
-        return s[i] as usize * 65536 + s[i + 1] as usize * 256 + s[i + 2] as usize;
+        return usize::from(s[i]) * 65536 + usize::from(s[i + 1]) * 256 + usize::from(s[i + 2]);
     }
     byte_at(s, i) * 65536 + byte_at(s, i + 1) * 256 + byte_at(s, i + 2)
 }
@@ -74,18 +77,11 @@ fn set_window(s: &mut [u8], i: usize, x: usize)
     set_byte(s, i + 2, (x % 256) as u8);
 }
 
-// At most 16 bits at a time.
-fn width(n: usize) -> usize
-    ensures { result ≡ min n 16 }
-{
-    if n < 16 { n } else { 16 }
-}
-
 // The n bits at a place as a number, of n over 16 the first 16; each bit past the end is 0.
 pub fn read_bits(s: &[u8], place: usize, n: usize) -> usize
     ensures { result ≡ val (view s.now place (min n 16)) }
 {
-    let n = width(n);
+    let n = n.min(16);
     let w = window(s, place / 8);
     (w >> (24 - place % 8 - n)) % (1 << n)
 }
@@ -95,7 +91,7 @@ pub fn write_bits(s: &mut [u8], place: usize, n: usize, v: usize)
     ensures { s.new ≡ laid s.old place (word (min n 16) v) }
 {
     let i = place / 8;
-    let n = width(n);
+    let n = n.min(16);
     let h = 24 - place % 8;
     let m = h - n;
     let w = window(s, i);

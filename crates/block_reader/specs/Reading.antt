@@ -8,14 +8,15 @@ use Rattle.ground.specs.Replies.{done}
 use Rattle.frame.specs.Answers as frame
 use Rattle.frame.specs.Answers.{Outcome, reading_of, stopped_at}
 use Rattle.recording.specs.Walk.{stored_at}
-use Rattle.recording.specs.Blocks.{block_step, passing_of}
+use Rattle.recording.specs.Blocks.{block_step}
+use Rattle.recording.specs.Told.{step_reply}
 use Rattle.frames.specs.Places.{place_of}
 use Rattle.frames.specs.Rooms.{room_causes}
 use Rattle.block_reader.specs.declared.Block.{Block}
 
 -- 17, 10, then what the frames say
 unfoldable pub block_causes : List ℕ → ℕ → ℕ → ℕ → List Cause
-block_causes s n codes tails = room_causes n codes tails ++ said (passing_of (block_step n s)).reply ∷ []
+block_causes s n codes tails = room_causes n codes tails ++ said (step_reply (block_step n s)) ∷ []
 
 abbrev pub block_reply : List ℕ → ℕ → ℕ → ℕ → ℕ
 block_reply s n codes tails = first (block_causes s n codes tails)

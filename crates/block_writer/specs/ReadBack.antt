@@ -1,23 +1,27 @@
 -- What a block that was written reads as (02, No. 2: "Demand 2 holds per frame").
 -- Assumes nothing.
-use Rattle.std.specs.Prelude.{Bool, true, false, cond, List, ◌++◌, ℕ, ◌+◌, ◌*◌, drop}
+use Rattle.std.specs.Prelude.{Option, None, Some, cond, List, ◌++◌, ℕ, ◌+◌, ◌*◌, eqb, drop}
 use Rattle.ground.specs.Runs.{runs, part}
 use Rattle.ground.specs.Replies.{done, no_data}
 use Rattle.prefix.specs.Sizes.{mode_bytes}
 use Rattle.frame.specs.Answers.{stopped_at}
 use Rattle.frame.specs.declared.Record.{Record}
 use Rattle.frame.specs.declared.Reading.{Reading}
-use Rattle.block_writer.specs.Writing.{record_at, empty_at}
+use Rattle.block_writer.specs.Writing.{given_at, empty_at}
 use Rattle.block_writer.specs.declared.Records.{Records}
 
 -- a frame: an empty one has no record
-abbrev pub read_again : Record → Bool → Reading
-read_again r true = stopped_at no_data 1
-read_again r false = record { reply = done; next = mode_bytes r.mode + 1; «record» = r }
+abbrev pub read_again : Option Record → Reading
+read_again None = stopped_at no_data 1
+read_again (Some r) = record { reply = done; next = mode_bytes r.mode + 1; «record» = r }
+
+-- and what is written for a frame that was read: an empty one where it says 14
+abbrev pub given_again : Reading → Option Record
+given_again r = cond (eqb r.reply no_data) None (Some r.«record»)
 
 -- what channel c reads as
 abbrev pub reading_back : Records → ℕ → Reading
-reading_back r c = read_again (record_at r c) (empty_at r c)
+reading_back r c = read_again (given_at r c)
 
 -- what the lent numbers and bytes then hold: those of each frame with data, and for an empty frame what they held
 abbrev pub codes_back : Records → ℕ → List ℕ → List ℕ → List ℕ

@@ -2,115 +2,102 @@
 
 #![tactic(auto)]
 
-ghost use Rattle.std.specs.Prelude.{◌≡◌, ◌++◌, ◌+◌, ◌*◌, ◌≤◌, ◌<◌, length, drop};
+ghost use Rattle.std.specs.Prelude.{◌≡◌, ◌++◌, ◌+◌, ◌*◌, ◌≤◌, ◌<◌, length, take, drop, sum_by};
+ghost use Rattle.ground.specs.Numbered.{reply_of};
 ghost use Rattle.ground.specs.Refusals.{first};
-ghost use Rattle.ground.specs.Runs.{runs};
-ghost use Rattle.ground.specs.Sums.{sum_to};
-ghost use Rattle.block_writer.specs.Writing.{record_at, empty_at, frame_causes, causes_at, frame_of, block_bytes, block_reply, block_answer, out_after};
+ghost use Rattle.ground.specs.Runs.{runs, part};
+ghost use Rattle.block_writer.specs.Writing.{frame_causes, causes_at, frame_of, block_bytes, block_reply, block_answer, out_after};
 ghost use Rattle.block_writer.specs.Inner.{frame_bytes};
 
 use frame::Record;
-use ground::replies::{DONE, SHORT_ROOM};
+use ground::replies::Reply;
 use prefix::Mode;
 use writer::Writing;
 
-// What a block is written from: a record for each channel, and whether its frame is an empty one.
+// What a block is written from: the record of each channel's frame, or None for an empty frame.
 #[derive(Clone, Copy)]
 pub struct Records {
-    pub at: [Record; 8],
-    pub empty: [bool; 8],
+    pub at: [Option<Record>; 8],
+}
+
+// Channel c's own 800 numbers and 320 bytes.
+fn own<'a>(codes: &'a [u16], tails: &'a [u8], c: usize) -> (&'a [u16], &'a [u8])
+    requires { (c < 8) × (c * 800 + 800 ≤ length codes.now) × (c * 320 + 320 ≤ length tails.now) }
+    ensures { (result.0.now ≡ part 800 codes.now c) × (result.1.now ≡ part 320 tails.now c) }
+{
+    let a = c * 800;
+    let t = c * 320;
+    (&codes[a..a + 800], &tails[t..t + 320])
 }
 
 // A frame's own causes, with room for the longest: an empty frame has none.
-fn frame_reply(r: Record, empty: bool, codes: &[u16], tail: &[u8]) -> u8
-    ensures { result ≡ first (frame_causes r empty codes.now tail.now) }
+fn frame_reply(given: Option<Record>, codes: &[u16], tail: &[u8]) -> Result<(), Reply>
+    ensures { reply_of result ≡ first (frame_causes given codes.now tail.now) }
 {
-    if empty {
-        return DONE;
+    match given {
+        None => Ok(()),
+        Some(record) => writer::write_reply(record, codes, tail, 321),
     }
-    writer::write_reply(r, codes, tail, 321)
 }
 
 // The bytes of a frame with its prefix byte.
-fn frame_bytes(r: Record, empty: bool) -> usize
-    ensures { (result ≡ frame_bytes r empty) × (result ≤ 321) }
+fn frame_bytes(given: Option<Record>) -> usize
+    ensures { (result ≡ frame_bytes given) × (result ≤ 321) }
 {
-    if empty {
-        return 1;
+    match given {
+        None => 1,
+        Some(record) => usize::from(Mode(record.mode).bytes()) + 1,
     }
-    Mode(r.mode).bytes() as usize + 1
 }
 
 // The first frame's causes, channel by channel.
-fn frames_reply(records: Records, channels: usize, codes: &[u16], tails: &[u8]) -> u8
+fn frames_reply(records: Records, channels: usize, codes: &[u16], tails: &[u8]) -> Result<(), Reply>
     requires { (channels ≤ 8) × (channels * 800 ≤ length codes.now) × (channels * 320 ≤ length tails.now) }
-    ensures { result ≡ first (runs channels (causes_at records codes.now tails.now)) }
+    ensures { reply_of result ≡ first (runs channels (causes_at records codes.now tails.now)) }
 {
-    let list = records.at;
-    let empties = records.empty;
-    let mut c: usize = 0;
-    while c < channels {
-        let a = c * 800;
-        let e = a + 800;
-        let t = c * 320;
-        let u = t + 320;
-        let r = list[c];
-        let reply = frame_reply(r, empties[c], &codes[a..e], &tails[t..u]);
-        if reply != DONE {
-            return reply;
-        }
-        c += 1;
+    for (c, given) in records.at[..channels].iter().enumerate() {
+        let (numbers, bytes) = own(codes, tails, c);
+        frame_reply(*given, numbers, bytes)?;
     }
-    DONE
+    Ok(())
 }
 
 // The bytes of all frames.
-fn block_bytes(records: Records, channels: usize) -> usize
-    requires { channels ≤ 8 }
-    ensures { result ≡ sum_to (λ c. frame_bytes (record_at records c) (empty_at records c)) channels }
+fn block_bytes(given: &[Option<Record>]) -> usize
+    requires { length given.now ≤ 8 }
+    ensures { result ≡ sum_by frame_bytes given.now }
 {
-    let list = records.at;
-    let empties = records.empty;
-    let mut n: usize = 0;
-    let mut c: usize = 0;
-    while c < channels {
-        let r = list[c];
-        n += frame_bytes(r, empties[c]);
-        c += 1;
-    }
-    n
+    given.iter().map(|frame| frame_bytes(*frame)).sum()
 }
 
 // 17 and 10 for the call, each frame's causes channel by channel, and last 10 for the output.
-fn block_reply(records: Records, channels: usize, codes: &[u16], tails: &[u8], room: usize) -> u8
-    ensures { result ≡ block_reply records channels codes.now tails.now room }
+fn block_reply(
+    records: Records,
+    channels: usize,
+    codes: &[u16],
+    tails: &[u8],
+    room: usize,
+) -> Result<(), Reply>
+    ensures { reply_of result ≡ block_reply records channels codes.now tails.now room }
 {
-    let early = frames::room_reply(channels, codes.len(), tails.len());
-    if early != DONE {
-        return early;
+    frames::room_reply(channels, codes.len(), tails.len())?;
+    frames_reply(records, channels, codes, tails)?;
+    if room < block_bytes(&records.at[..channels]) {
+        return Err(Reply::ShortRoom);
     }
-    let late = frames_reply(records, channels, codes, tails);
-    if late != DONE {
-        return late;
-    }
-    if room < block_bytes(records, channels) {
-        return SHORT_ROOM;
-    }
-    DONE
+    Ok(())
 }
 
 // Lays one frame that passes at the start of a slice that holds it; answers its bytes.
-fn put_frame(r: Record, empty: bool, codes: &[u16], tail: &[u8], out: &mut [u8]) -> usize
-    requires { (first (frame_causes r empty codes.now tail.now) ≡ 0) × (frame_bytes r empty ≤ length out.old) }
-    ensures { (result ≡ frame_bytes r empty)
-        × (out.new ≡ frame_of r empty codes.now tail.now ++ drop (frame_bytes r empty) out.old) }
+fn put_frame(given: Option<Record>, codes: &[u16], tail: &[u8], out: &mut [u8]) -> usize
+    requires { (first (frame_causes given codes.now tail.now) ≡ 0) × (frame_bytes given ≤ length out.old) }
+    ensures { (result ≡ frame_bytes given)
+        × (out.new ≡ frame_of given codes.now tail.now ++ drop (frame_bytes given) out.old) }
 {
-    if empty {
-        let bare = writer::write_empty(out);
-        return bare.next;
+    match given {
+        None => writer::write_empty(out).next,
+        Some(record) => writer::write(record, codes, tail, out).next,
     }
-    let full = writer::write(r, codes, tail, out);
-    full.next
 }
 
 // Lays the frames of a block that passes one behind the other; answers their bytes.
@@ -125,18 +112,10 @@ fn put_block(
     ensures { (result ≡ length (block_bytes records channels codes.now tails.now))
         × (out.new ≡ block_bytes records channels codes.now tails.now ++ drop result out.old) }
 {
-    let list = records.at;
-    let empties = records.empty;
-    let mut at: usize = 0;
-    let mut c: usize = 0;
-    while c < channels {
-        let a = c * 800;
-        let e = a + 800;
-        let t = c * 320;
-        let u = t + 320;
-        let r = list[c];
-        at += put_frame(r, empties[c], &codes[a..e], &tails[t..u], &mut out[at..]);
-        c += 1;
+    let mut at = 0;
+    for (c, given) in records.at[..channels].iter().enumerate() {
+        let (numbers, bytes) = own(codes, tails, c);
+        at += put_frame(*given, numbers, bytes, &mut out[at..]);
     }
     at
 }
@@ -153,11 +132,9 @@ pub fn write_block(
     ensures { (result ≡ block_answer (block_reply records channels codes.now tails.now (length out.old)) records channels codes.now tails.now)
         × (out.new ≡ out_after (block_reply records channels codes.now tails.now (length out.old)) records channels codes.now tails.now out.old) }
 {
-    let n = channels as usize;
-    let reply = block_reply(records, n, codes, tails, out.len());
-    if reply != DONE {
-        return Writing { reply, next: 0 };
+    let n = usize::from(channels);
+    match block_reply(records, n, codes, tails, out.len()) {
+        Ok(()) => Writing::from(Ok(put_block(records, n, codes, tails, out))),
+        Err(reply) => Writing::from(Err(reply)),
     }
-    let next = put_block(records, n, codes, tails, out);
-    Writing { reply: DONE, next }
 }

@@ -1,7 +1,8 @@
 -- Flags at the C boundary: a number that comes in is true unless it is 0, and a flag that goes out is 0 or 1.
 -- Assumes nothing.
-use Rattle.std.specs.Prelude.{Bool, cond, not, map, ℕ, eqb}
-use Rattle.norms.specs.declared.Choice as norms
+use Rattle.std.specs.Prelude.{Bool, Option, None, Some, cond, not, [], map, ℕ, eqb, get_or}
+use Rattle.ground.specs.ListsByRule.{table}
+use Rattle.norms.specs.Answers as norms
 use Rattle.frame.specs.declared.Record as frame
 use Rattle.frame.specs.declared.Reading as read
 use Rattle.block_reader.specs.declared.Block as block
@@ -54,5 +55,13 @@ choice_out c = record { reply = c.reply; flag = flag_out c.flag }
 unfoldable pub block_out : block.Block → Block
 block_out b = record { reply = b.reply; next = b.next; frames = map reading_out b.frames }
 
+-- what a channel's frame is written from: none where the number says that it is an empty one
+unfoldable pub given_in : Record → ℕ → Option frame.Record
+given_in r empty = cond (flag_in empty) None (Some (record_in r))
+
+-- what stands past the last place of a list of records
+abbrev pub past_record : Record
+past_record = record { mode = 0; transient = 0; flag_l = 0; flag_n = 0; flag_c = 0; norms = []; noise = 0; tail_bits = 0 }
+
 unfoldable pub records_in : Records → written.Records
-records_in r = record { at = map record_in r.at; empty = map flag_in r.empty }
+records_in r = record { at = table 8 (λ c. given_in (get_or r.at c past_record) (get_or r.empty c 0)) }

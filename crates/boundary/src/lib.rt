@@ -2,13 +2,15 @@
 
 #![tactic(auto)]
 
-ghost use Rattle.std.specs.Prelude.{◌≡◌, map, length};
+ghost use Rattle.std.specs.Prelude.{◌≡◌, ℕ, ◌<◌, slice_index_or};
+ghost use Rattle.ground.specs.Numbered as replies;
+ghost use Rattle.norms.specs.Answers.{answered};
 ghost use Rattle.boundary.specs.PrefixStructs.{prefix_numbers, byte_numbers};
-ghost use Rattle.boundary.specs.Flags.{flag_in, flag_out, record_in, record_out, reading_out, choice_out, block_out, records_in};
+ghost use Rattle.boundary.specs.Flags.{flag_in, record_in, record_out, reading_out, choice_out, block_out, given_in, records_in};
 
-use ground::replies::{DONE, MARKED, NO_BYTE, NO_DATA, OUT_OF_RANGE, RESERVED};
+use ground::replies::{DONE, Reply};
 
-// What a prefix byte says: the field L, the body bytes and the next place.
+// What a prefix byte says: the field L, the body bytes and the next place. C reads this struct: g719_read_prefix gives it.
 #[repr(C)]
 #[derive(Clone, Copy)]
 pub struct Prefix {
@@ -18,7 +20,7 @@ pub struct Prefix {
     pub next: u8,
 }
 
-// The prefix byte of a mode.
+// The prefix byte of a mode. C reads this struct: g719_write_prefix gives it.
 #[repr(C)]
 #[derive(Clone, Copy)]
 pub struct Byte {
@@ -26,7 +28,7 @@ pub struct Byte {
     pub byte: u8,
 }
 
-// A frame's record as C has it: each flag is a number, any but 0 being true.
+// A frame's record as C has it: each flag is a number, any but 0 being true. C writes this struct for g719_write, and reads it in a reading.
 #[repr(C)]
 #[derive(Clone, Copy)]
 pub struct Record {
@@ -40,7 +42,7 @@ pub struct Record {
     pub tail_bits: u16,
 }
 
-// What reading answers, as C has it.
+// What reading answers, as C has it: C reads this struct of g719_read, the reply first.
 #[repr(C)]
 #[derive(Clone, Copy)]
 pub struct Reading {
@@ -49,7 +51,7 @@ pub struct Reading {
     pub record: Record,
 }
 
-// What reading a block answers, as C has it.
+// What reading a block answers, as C has it: C reads this struct of g719_read_block, the reply first.
 #[repr(C)]
 #[derive(Clone, Copy)]
 pub struct Block {
@@ -58,7 +60,7 @@ pub struct Block {
     pub frames: [Reading; 8],
 }
 
-// What a block is written from, as C has it: an empty frame where the number is not 0.
+// What a block is written from, as C has it: an empty frame where the number is not 0. C writes these two arrays for g719_write_block.
 #[repr(C)]
 #[derive(Clone, Copy)]
 pub struct Records {
@@ -66,7 +68,7 @@ pub struct Records {
     pub empty: [u8; 8],
 }
 
-// What a choice answers, as C has it: the flag is 0 or 1.
+// What a choice answers, as C has it: the flag is 0 or 1. C reads this struct of g719_choose_flag_n, the reply first.
 #[repr(C)]
 #[derive(Clone, Copy)]
 pub struct Choice {
@@ -75,125 +77,138 @@ pub struct Choice {
 }
 
 // Any number but 0 is true.
+#[tactic(auto, unfolding(crate::specs::Flags::flag_in))]
 pub fn flag_in(number: u8) -> bool
     ensures { result ≡ flag_in number }
 {
     number != 0
 }
 
-// 0 or 1.
-fn flag_out(flag: bool) -> u8
-    ensures { result ≡ flag_out flag }
+// Eight of what a function gives of each of eight. `[T; 8]::map` moves them through iterators of its own: g719_read_block then takes 9,067 bytes of stack, and
+// the rule is 8 KiB a call.
+fn each<A: Copy, B: Copy, F: Fn(A) -> B>(list: &[A; 8], made: F) -> [B; 8]
+    requires { F.IsAlwaysCallable made }
+    ensures { (k : ℕ) (d : A) (e : B) → k < 8 → F.post made (slice_index_or list.now k d) (slice_index_or result k e) }
 {
-    if flag { 1 } else { 0 }
-}
-
-pub fn record_in(r: Record) -> frame::Record
-    ensures { result ≡ record_in r }
-{
-    let norms = r.norms;
-    frame::Record {
-        mode: r.mode,
-        transient: flag_in(r.transient),
-        flag_l: flag_in(r.flag_l),
-        flag_n: flag_in(r.flag_n),
-        flag_c: flag_in(r.flag_c),
-        norms,
-        noise: r.noise,
-        tail_bits: r.tail_bits,
+    let mut out = [made(list[0]); 8];
+    for (k, place) in out.iter_mut().enumerate() {
+        *place = made(list[k]);
     }
+    out
 }
 
-fn record_out(r: frame::Record) -> Record
-    ensures { result ≡ record_out r }
-{
-    let norms = r.norms;
-    Record {
-        mode: r.mode,
-        transient: flag_out(r.transient),
-        flag_l: flag_out(r.flag_l),
-        flag_n: flag_out(r.flag_n),
-        flag_c: flag_out(r.flag_c),
-        norms,
-        noise: r.noise,
-        tail_bits: r.tail_bits,
+impl From<Record> for frame::Record {
+    ghost from_gives = { λ r made. made ≡ record_in r };
+
+    #[tactic(auto, unfolding(crate::specs::Flags::record_in))]
+    fn from(r: Record) -> frame::Record {
+        let norms = r.norms;
+        frame::Record {
+            mode: r.mode,
+            transient: flag_in(r.transient),
+            flag_l: flag_in(r.flag_l),
+            flag_n: flag_in(r.flag_n),
+            flag_c: flag_in(r.flag_c),
+            norms,
+            noise: r.noise,
+            tail_bits: r.tail_bits,
+        }
     }
 }
 
-pub fn reading_out(r: frame::Reading) -> Reading
-    ensures { result ≡ reading_out r }
-{
-    let record = r.record;
-    Reading {
-        reply: r.reply,
-        next: r.next,
-        record: record_out(record),
+impl From<frame::Record> for Record {
+    ghost from_gives = { λ r made. made ≡ record_out r };
+
+    #[tactic(auto, unfolding(crate::specs::Flags::record_out, crate::specs::Flags::flag_out))]
+    fn from(r: frame::Record) -> Record {
+        let norms = r.norms;
+        Record {
+            mode: r.mode,
+            transient: u8::from(r.transient),
+            flag_l: u8::from(r.flag_l),
+            flag_n: u8::from(r.flag_n),
+            flag_c: u8::from(r.flag_c),
+            norms,
+            noise: r.noise,
+            tail_bits: r.tail_bits,
+        }
     }
 }
 
-pub fn block_out(b: block_reader::Block) -> Block
-    ensures { result ≡ block_out b }
-{
-    let list = b.frames;
-    let none = reading_out(list[0]);
-    let mut frames = [none; 8];
-    let mut c: usize = 0;
-    while c < 8 {
-        frames[c] = reading_out(list[c]);
-        c += 1;
-    }
-    Block {
-        reply: b.reply,
-        next: b.next,
-        frames,
+impl From<frame::Reading> for Reading {
+    ghost from_gives = { λ r made. made ≡ reading_out r };
+
+    #[tactic(auto, unfolding(crate::specs::Flags::reading_out))]
+    fn from(r: frame::Reading) -> Reading {
+        Reading {
+            reply: r.reply,
+            next: r.next,
+            record: r.record.into(),
+        }
     }
 }
 
-fn flags_in(numbers: [u8; 8]) -> [bool; 8]
-    ensures { result ≡ map flag_in numbers }
-{
-    let mut flags = [false; 8];
-    let mut c: usize = 0;
-    while c < 8 {
-        flags[c] = flag_in(numbers[c]);
-        c += 1;
-    }
-    flags
-}
+impl From<block_reader::Block> for Block {
+    ghost from_gives = { λ b made. made ≡ block_out b };
 
-pub fn records_in(r: Records) -> block_writer::Records
-    ensures { result ≡ records_in r }
-{
-    let list = r.at;
-    let numbers = r.empty;
-    let none = record_in(list[0]);
-    let mut at = [none; 8];
-    let mut c: usize = 0;
-    while c < 8 {
-        at[c] = record_in(list[c]);
-        c += 1;
-    }
-    block_writer::Records {
-        at,
-        empty: flags_in(numbers),
+    #[tactic(auto, unfolding(crate::specs::Flags::block_out))]
+    fn from(b: block_reader::Block) -> Block {
+        Block {
+            reply: b.reply,
+            next: b.next,
+            frames: each(&b.frames, Reading::from),
+        }
     }
 }
 
-pub fn choice_out(c: norms::Choice) -> Choice
-    ensures { result ≡ choice_out c }
+// What a channel's frame is written from: none where the number says that it is an empty one.
+#[tactic(auto, unfolding(crate::specs::Flags::given_in))]
+fn given_in(record: Record, empty: u8) -> Option<frame::Record>
+    ensures { result ≡ given_in «record» empty }
 {
-    Choice {
-        reply: c.reply,
-        flag: flag_out(c.flag),
+    if flag_in(empty) {
+        None
+    } else {
+        Some(record.into())
+    }
+}
+
+impl From<Records> for block_writer::Records {
+    ghost from_gives = { λ r made. made ≡ records_in r };
+
+    fn from(r: Records) -> block_writer::Records {
+        let mut at = [None; 8];
+        for c in 0..8 {
+            at[c] = given_in(r.at[c], r.empty[c]);
+        }
+        block_writer::Records { at }
+    }
+}
+
+impl From<Result<bool, Reply>> for Choice {
+    ghost from_gives = { λ c made. made ≡ choice_out (answered c) };
+
+    #[tactic(auto, unfolding(crate::specs::Flags::choice_out, crate::specs::Flags::flag_out))]
+    fn from(c: Result<bool, Reply>) -> Choice {
+        match c {
+            Ok(flag) => Choice {
+                reply: DONE,
+                flag: u8::from(flag),
+            },
+            Err(reply) => Choice {
+                reply: reply.into(),
+                flag: 0,
+            },
+        }
     }
 }
 
 // A prefix byte without a body; only for no data is there a next place.
-fn no_body(reply: u8, next: u8) -> Prefix
-    ensures { result ≡ record { reply = reply; length = 0; bytes = 0; next = next } }
+fn no_body(reply: Reply, next: u8) -> Prefix
+    ensures { result ≡ record { reply = replies.number reply; length = 0; bytes = 0; next = next } }
 {
     Prefix {
-        reply,
+        reply: reply.into(),
         length: 0,
         bytes: 0,
         next,
@@ -201,32 +216,38 @@ fn no_body(reply: u8, next: u8) -> Prefix
 }
 
 // The cases of a prefix byte as 01's numbers.
-pub fn prefix_numbers(p: prefix::Prefix) -> Prefix
-    ensures { result ≡ prefix_numbers p }
-{
-    match p {
-        prefix::Prefix::Data(field) => Prefix {
-            reply: DONE,
-            length: field.0,
-            bytes: field.bytes(),
-            next: 1,
-        },
-        prefix::Prefix::NoData => no_body(NO_DATA, 1),
-        prefix::Prefix::NoByte => no_body(NO_BYTE, 0),
-        prefix::Prefix::Marked => no_body(MARKED, 0),
-        prefix::Prefix::Reserved => no_body(RESERVED, 0),
+impl From<prefix::Prefix> for Prefix {
+    ghost from_gives = { λ p made. made ≡ prefix_numbers p };
+
+    #[tactic(auto, unfolding(crate::specs::PrefixStructs::prefix_numbers))]
+    fn from(p: prefix::Prefix) -> Prefix {
+        match p {
+            prefix::Prefix::Data(field) => Prefix {
+                reply: DONE,
+                length: field.0,
+                bytes: field.bytes(),
+                next: 1,
+            },
+            prefix::Prefix::NoData => no_body(Reply::NoData, 1),
+            prefix::Prefix::NoByte => no_body(Reply::NoByte, 0),
+            prefix::Prefix::Marked => no_body(Reply::Marked, 0),
+            prefix::Prefix::Reserved => no_body(Reply::Reserved, 0),
+        }
     }
 }
 
 // The cases of a made byte as 01's numbers.
-pub fn byte_numbers(b: prefix::Byte) -> Byte
-    ensures { result ≡ byte_numbers b }
-{
-    match b {
-        prefix::Byte::Is(byte) => Byte { reply: DONE, byte },
-        prefix::Byte::OutOfRange => Byte {
-            reply: OUT_OF_RANGE,
-            byte: 0,
-        },
+impl From<Result<u8, Reply>> for Byte {
+    ghost from_gives = { λ b made. made ≡ byte_numbers b };
+
+    #[tactic(auto, unfolding(crate::specs::PrefixStructs::byte_numbers))]
+    fn from(b: Result<u8, Reply>) -> Byte {
+        match b {
+            Ok(byte) => Byte { reply: DONE, byte },
+            Err(reply) => Byte {
+                reply: reply.into(),
+                byte: 0,
+            },
+        }
     }
 }

@@ -2,14 +2,15 @@
 
 #![tactic(auto)]
 
-ghost use Rattle.std.specs.Prelude.{◌≡◌, length, drop, ◌++◌, ◌+◌, ◌≤◌};
+ghost use Rattle.std.specs.Prelude.{◌≡◌, length, take, drop, ◌++◌, ◌+◌, ◌≤◌};
+ghost use Rattle.frames.specs.Places.{size_at, place_from};
 ghost use Rattle.channels.specs.Copies.{check_answer, refused_copy, stopped_copy, is_among, extracted, extract_answer, extract_after};
 
-use ground::replies::{DONE, SHORT_ROOM, WRONG_CHANNELS};
+use ground::replies::{DONE, Reply};
 use recording::answer::Check;
 
 // What copying answers: 0 with the count of the blocks and the bytes written; a recording that is refused with its number, from 1 in a join, and the
-// check's own count and place; or the reply alone.
+// check's own count and place; or the reply alone. C reads this struct: g719_extract and g719_join hand it on.
 #[repr(C)]
 #[derive(Clone, Copy)]
 pub struct Copied {
@@ -49,10 +50,10 @@ pub fn stopped(found: Check, which: u8) -> Copied
 pub fn check_blocks(src: &[u8], channels: u8, booking: u32) -> Check
     ensures { result ≡ check_answer src.now channels booking }
 {
-    let n = channels as usize;
+    let n = usize::from(channels);
     if !recording::is_count(n) {
         return Check {
-            reply: WRONG_CHANNELS,
+            reply: Reply::WrongChannels.into(),
             count: 0,
             place: 0,
         };
@@ -64,10 +65,16 @@ pub fn check_blocks(src: &[u8], channels: u8, booking: u32) -> Check
 fn is_among(channels: usize, channel: usize) -> bool
     ensures { result ≡ is_among channels channel }
 {
-    if !recording::is_count(channels) {
-        return false;
-    }
-    channel < channels
+    recording::is_count(channels) && channel < channels
+}
+
+// The frame at a place, and the place of the same channel's next one.
+fn frame_and_next(src: &[u8], at: usize, channels: usize) -> (&[u8], usize)
+    requires { at ≤ length src.now }
+    ensures { (result.0.now ≡ take (size_at (drop at src.now)) (drop at src.now)) × (result.1 ≡ place_from src.now at channels) }
+{
+    let end = at + frames::size_at(src, at);
+    (&src[at..end], frames::place_behind(src, at, channels))
 }
 
 // The bytes of the channel's frames, in so many blocks.
@@ -76,12 +83,11 @@ fn channel_bytes(src: &[u8], channels: usize, channel: usize, blocks: u32) -> us
     ensures { result ≡ length (extracted channels channel blocks src.now) }
 {
     let mut at = frames::place_behind(src, 0, channel);
-    let mut n: usize = 0;
-    let mut b: u32 = 0;
-    while b < blocks {
-        n += frames::size_at(src, at);
-        at = frames::place_behind(src, at, channels);
-        b += 1;
+    let mut n = 0;
+    for _ in 0..blocks {
+        let (frame, next) = frame_and_next(src, at, channels);
+        n += frame.len();
+        at = next;
     }
     n
 }
@@ -92,13 +98,11 @@ fn copy_channel(src: &[u8], channels: usize, channel: usize, blocks: u32, out: &
     ensures { out.new ≡ extracted channels channel blocks src.now ++ drop (length (extracted channels channel blocks src.now)) out.old }
 {
     let mut from = frames::place_behind(src, 0, channel);
-    let mut to: usize = 0;
-    let mut b: u32 = 0;
-    while b < blocks {
-        let e = from + frames::size_at(src, from);
-        to = ground::bytes::put(out, to, &src[from..e]);
-        from = frames::place_behind(src, from, channels);
-        b += 1;
+    let mut to = 0;
+    for _ in 0..blocks {
+        let (frame, next) = frame_and_next(src, from, channels);
+        to = ground::bytes::put(out, to, frame);
+        from = next;
     }
 }
 
@@ -107,10 +111,10 @@ pub fn extract(src: &[u8], channels: u8, channel: u8, out: &mut [u8]) -> Copied
     ensures { (result ≡ extract_answer src.now channels channel (length out.old))
         × (out.new ≡ extract_after src.now channels channel out.old) }
 {
-    let n = channels as usize;
-    let k = channel as usize;
+    let n = usize::from(channels);
+    let k = usize::from(channel);
     if !is_among(n, k) {
-        return refusal(WRONG_CHANNELS);
+        return refusal(Reply::WrongChannels.into());
     }
     let found = recording::walk_blocks(src, n);
     let reply = found.reply;
@@ -120,7 +124,7 @@ pub fn extract(src: &[u8], channels: u8, channel: u8, out: &mut [u8]) -> Copied
     let count = found.count;
     let length = channel_bytes(src, n, k, count);
     if out.len() < length {
-        return refusal(SHORT_ROOM);
+        return refusal(Reply::ShortRoom.into());
     }
     copy_channel(src, n, k, count, out);
     Copied {

@@ -5,8 +5,7 @@ use Rattle.ground.specs.Refusals.{Cause, first}
 use Rattle.ground.specs.Sums.{sum_to}
 use Rattle.bits.specs.Codings.{word_of}
 use Rattle.words.specs.Tables.{coding, code_words}
-use Rattle.norms.specs.Answers.{chosen}
-use Rattle.norms.specs.declared.Choice.{Choice}
+use Rattle.norms.specs.Answers.{Choice, chosen}
 use Rattle.allotment.specs.Allotment.{shares_of}
 use Rattle.kinds.specs.Kinds.{band_of}
 use Rattle.kinds.specs.Budget.{all_compete}

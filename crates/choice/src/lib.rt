@@ -2,61 +2,46 @@
 
 #![tactic(auto)]
 
-ghost use Rattle.std.specs.Prelude.{◌≡◌, false, ◌≤◌, length};
-ghost use Rattle.words.specs.WritingTable.{writing_table};
+ghost use Rattle.std.specs.Prelude.{◌≡◌, ◌≤◌, length};
+ghost use Rattle.norms.specs.Answers.{answered};
 ghost use Rattle.choice.specs.Choice.{as_word, as_fixed, plain, choice_of};
 ghost use Rattle.choice.specs.Inner.{cheaper};
 
 use frame::Record;
-use ground::numbers::size_from_u8;
-use ground::replies::{DONE, WIDE_CODE};
-use norms::Choice;
-
-fn no_choice(reply: u8) -> Choice
-    ensures { result ≡ record { reply = reply; flag = false } }
-{
-    Choice { reply, flag: false }
-}
+use ground::replies::Reply;
 
 // What a number costs as a word of Table 20 where the kind is 2 to 5, and nothing elsewhere.
-fn as_word(table: &[u16; 60], kind: u8, v: u16) -> usize
-    requires { table.now ≡ writing_table }
+#[tactic(auto, using(crate::proofs::Laws::Choice::word_yes, crate::proofs::Laws::Choice::word_low, crate::proofs::Laws::Choice::word_high))]
+fn as_word(kind: u8, v: u16) -> usize
     ensures { (result ≡ as_word kind v) × (result ≤ 16) }
 {
-    if kind < 2 {
-        return 0;
+    match kind {
+        2..=5 => words::word_bits(kind + words::CODE_WORDS, v),
+        _ => 0,
     }
-    if 5 < kind {
-        return 0;
-    }
-    words::word_bits_by(table, kind + words::CODE_WORDS, v)
 }
 
 // What a fixed code costs there.
+#[tactic(auto, using(crate::proofs::Laws::Choice::fixed_yes, crate::proofs::Laws::Choice::fixed_low, crate::proofs::Laws::Choice::fixed_high))]
 fn as_fixed(kind: u8) -> usize
     ensures { (result ≡ as_fixed kind) × (result ≤ 16) }
 {
-    if kind < 2 {
-        return 0;
+    match kind {
+        2..=5 => usize::from(kind),
+        _ => 0,
     }
-    if 5 < kind {
-        return 0;
-    }
-    size_from_u8(kind)
 }
 
 // Whether words cost less than fixed codes.
-fn words_cheaper(table: &[u16; 60], kinds: &[u8], numbers: &[u16]) -> bool
-    requires { (table.now ≡ writing_table) × (length kinds.now ≡ length numbers.now) × (length kinds.now ≤ 800) }
+fn words_cheaper(kinds: &[u8], numbers: &[u16]) -> bool
+    requires { (length kinds.now ≡ length numbers.now) × (length kinds.now ≤ 800) }
     ensures { result ≡ cheaper kinds.now numbers.now }
 {
     let mut words: usize = 0;
     let mut fixed: usize = 0;
-    let mut i: usize = 0;
-    while i < kinds.len() {
-        words += as_word(table, kinds[i], numbers[i]);
-        fixed += as_fixed(kinds[i]);
-        i += 1;
+    for (kind, v) in kinds.iter().zip(numbers) {
+        words += as_word(*kind, *v);
+        fixed += as_fixed(*kind);
     }
     words < fixed
 }
@@ -65,37 +50,19 @@ fn words_cheaper(table: &[u16; 60], kinds: &[u8], numbers: &[u16]) -> bool
 fn plain(r: Record) -> Record
     ensures { result ≡ plain r }
 {
-    let norms = r.norms;
-    Record {
-        mode: r.mode,
-        transient: r.transient,
-        flag_l: r.flag_l,
-        flag_n: r.flag_n,
-        flag_c: false,
-        norms,
-        noise: r.noise,
-        tail_bits: r.tail_bits,
-    }
+    Record { flag_c: false, ..r }
 }
 
 // Chooses FlagC for a record and its codes: 8 for the mode, 10, the other causes of 8, 9, 12; else whether words cost less than fixed codes over the
 // bands at rates 2 to 5. Noise, tail and the record's own FlagC are not looked at.
-pub fn choose_flag_c(r: Record, codes: &[u16]) -> Choice
-    ensures { result ≡ choice_of r codes.now }
+pub fn choose_flag_c(r: Record, codes: &[u16]) -> Result<bool, Reply>
+    ensures { answered result ≡ choice_of r codes.now }
 {
-    let start = layout::start_reply(r, codes.len());
-    if start != DONE {
-        return no_choice(start);
-    }
+    layout::start_reply(r, codes.len())?;
     let plan = layout::plan_of(plain(r));
-    let kinds = plan.kinds;
     let numbers = &codes[..800];
-    if !layout::all_fit(&kinds, numbers) {
-        return no_choice(WIDE_CODE);
+    if !layout::all_fit(&plan.kinds, numbers) {
+        return Err(Reply::WideCode);
     }
-    let table = words::writing_table();
-    Choice {
-        reply: DONE,
-        flag: words_cheaper(&table, &kinds, numbers),
-    }
+    Ok(words_cheaper(&plan.kinds, numbers))
 }

@@ -1,6 +1,8 @@
 -- The codebook of rate 1 (001, 7.6.1, Tables 18 and 19), made from the print by 01's repair rule; and what the two point calls answer.
 -- Assumes nothing.
 use Rattle.std.specs.Prelude.{Bool, true, false, cond, not, ◌&&◌, ◌||◌, List, [], ◌∷◌, ◌++◌, ℕ, zero, suc, ◌-◌, eqb, ltb, length, get_or, take, drop, ℤ, pos}
+use Rattle.std.specs.declared.option.Option.{Option}
+use Rattle.std.specs.declared.option.Option.TheVariants.{Some, None}
 use Rattle.ground.specs.ListsByRule.{from, table}
 use Rattle.ground.specs.Replies.{done, out_of_range}
 use Rattle.points.specs.Answers.{eq_z, no_point}
@@ -143,6 +145,11 @@ place_of v (w ∷ rows) = cond (eq_row v w) 0 (suc (place_of v rows))
 
 abbrev pub no_row : Row
 no_row = record { reply = out_of_range; index = 0 }
+
+-- the answer to what was found
+abbrev pub answer_row : Option ℕ → Row
+answer_row (Some n) = record { reply = done; index = n }
+answer_row None = no_row
 
 -- the eight numbers of a point
 abbrev pub eight : List ℤ → List ℤ

@@ -2,6 +2,8 @@
 -- For a row of ±1 the low byte is the byte of signs.
 -- Assumes nothing.
 use Rattle.std.specs.Prelude.{◌≡◌, Bool, cond, List, ℕ, zero, suc, ◌*◌, ◌^◌, ◌<◌, ◌≤◌, eqb, get_or, ℤ, pos, negsuc}
+use Rattle.std.specs.declared.option.Option.{Option}
+use Rattle.std.specs.declared.option.Option.TheVariants.{Some, None}
 use Rattle.ground.specs.Sums.{sum_to}
 use Rattle.codebook.specs.Table18.{+0, +1, +2, -1, -2}
 use Rattle.codebook.specs.Codebook.{row}
@@ -32,9 +34,18 @@ unfoldable pub sign_class : ℕ → Span
 sign_class n =
     cond (eqb n 2) (span 128 156) (cond (eqb n 4) (span 156 226) (cond (eqb n 6) (span 226 254) (cond (eqb n 8) (span 254 255) (span 255 256))))
 
--- from `from` up n is the first row, below `to`, that has the code x; `to`, if none has
-pub record Found (x from to n : ℕ) : Type 0 where
+-- no row from `from` on and below `to` has the code x
+pub record Passed (x from to : ℕ) : Type 0 where
+  pub each : (j : ℕ) → from ≤ j → j < to → code (row j) ≡ x → ⊥
+
+-- from `from` up n is the first row, below `to`, that has the code x
+pub record First (x from to n : ℕ) : Type 0 where
   pub low : from ≤ n
-  pub high : n ≤ to
-  pub hit : n < to → code (row n) ≡ x
-  pub passed : (j : ℕ) → from ≤ j → j < n → code (row j) ≡ x → ⊥
+  pub high : n < to
+  pub hit : code (row n) ≡ x
+  pub passed : Passed x from n
+
+-- the first row that has the code x, if one has
+abbrev pub Found : ℕ → ℕ → ℕ → Option ℕ → Type 0
+Found x from to (Some n) = First x from to n
+Found x from to None = Passed x from to

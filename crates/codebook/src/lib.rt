@@ -3,18 +3,19 @@
 
 #![tactic(auto)]
 
-ghost use Rattle.std.specs.Prelude.{◌≡◌, ◌<◌, get_or};
-ghost use Rattle.codebook.specs.Codebook.{row, row_point};
+ghost use Rattle.std.specs.Prelude.{◌≡◌, ◌<◌};
+ghost use Rattle.points.specs.Answers.{answer_point};
+ghost use Rattle.codebook.specs.Codebook.{row, row_point, answer_row};
 ghost use Rattle.codebook.specs.Packed.{code, entry};
 ghost use Rattle.codebook.specs.Inner.{digit};
-ghost use Rattle.codebook.specs.Rows.{twos, signs};
 
-use ground::replies::DONE;
+use ground::replies::{DONE, Reply};
 use points::Point;
-use tables::{SIGNS, TWOS};
+use tables::Tables;
 
 pub mod tables;
 
+// C reads this struct: g719_codebook_index hands it on.
 #[repr(C)]
 #[derive(Clone, Copy)]
 pub struct Row {
@@ -22,39 +23,18 @@ pub struct Row {
     pub index: u8,
 }
 
-fn two_code(low: &[u16; 128], n: usize) -> u32
-    requires { (low.now ≡ twos) × (n < 128) }
-    ensures { (result ≡ get_or twos n 0) × (result < 65536) }
-{
-    low[n] as u32
-}
+impl From<Option<u8>> for Row {
+    ghost from_gives = { λ found a. a ≡ answer_row found };
 
-fn sign_byte(high: &[u8; 128], n: usize) -> u32
-    requires { (high.now ≡ signs) × (n < 128) }
-    ensures { (result ≡ get_or signs n 0) × (result < 256) }
-{
-    high[n] as u32
-}
-
-// The code of a row. The tables are lent, so that a search copies them once.
-pub fn code_in(low: &[u16; 128], high: &[u8; 128], n: usize) -> u32
-    requires { (low.now ≡ twos) × (high.now ≡ signs) × (n < 256) }
-    ensures { (result ≡ code (row n)) × (result < 65536) }
-{
-    if n < 128 {
-        return two_code(low, n);
+    fn from(found: Option<u8>) -> Row {
+        match found {
+            Some(index) => Row { reply: DONE, index },
+            None => Row {
+                reply: Reply::OutOfRange.into(),
+                index: 0,
+            },
+        }
     }
-    let s = sign_byte(high, n - 128);
-    (255 - s) * 256 + s
-}
-
-fn code_at(n: usize) -> u32
-    requires { n < 256 }
-    ensures { (result ≡ code (row n)) × (result < 65536) }
-{
-    let low = TWOS;
-    let high = SIGNS;
-    code_in(&low, &high, n)
 }
 
 fn has(b: u32, i: usize) -> bool
@@ -67,46 +47,41 @@ fn has(b: u32, i: usize) -> bool
 fn entry_of(two: bool, plus: bool, minus: bool) -> i16
     ensures { result ≡ entry two plus minus }
 {
-    if plus {
-        if two {
-            return 2;
-        }
-        return 1;
+    match (plus, minus, two) {
+        (true, _, true) => 2,
+        (true, _, false) => 1,
+        (false, true, true) => -2,
+        (false, true, false) => -1,
+        (false, false, _) => 0,
     }
-    if minus {
-        if two {
-            return -2;
-        }
-        return -1;
-    }
-    0
 }
 
-pub fn row_list(n: usize) -> [i16; 8]
-    requires { n < 256 }
+pub fn row_list(n: u8) -> [i16; 8]
     ensures { result ≡ row n }
 {
-    let c = code_at(n);
-    let mut v = [0i16; 8];
-    for i in 0usize..8 {
-        let z = entry_of(n < 128, has(c / 256, i), has(c % 256, i));
-        v[i] = z;
+    let c = Tables::packed().code(n);
+    let mut v = [0; 8];
+    for (i, z) in v.iter_mut().enumerate() {
+        *z = entry_of(n < 128, has(c / 256, i), has(c % 256, i));
     }
     v
 }
 
-// The point that an index names: 0 and the row; 8 for a rate that is not 1 or an index over 255.
+// The row that an index names, if the rate is 1 and the index at most 255
 #[tactic(auto, using(crate::proofs::Laws::OneToOne::row_answered, crate::proofs::Laws::OneToOne::rate_refused, crate::proofs::Laws::OneToOne::index_refused))]
+fn row_named(rate: u8, index: u16) -> Option<[i16; 8]>
+    ensures { answer_point result ≡ row_point rate index }
+{
+    if rate != 1 {
+        return None;
+    }
+    let n = u8::try_from(index).ok()?;
+    Some(row_list(n))
+}
+
+// The point that an index names: 0 and the row; 8 for a rate that is not 1 or an index over 255.
 pub fn codebook_point(rate: u8, index: u16) -> Point
     ensures { result ≡ row_point rate index }
 {
-    if rate != 1 {
-        return points::no_point();
-    }
-    let n = index as usize;
-    if n < 256 {
-        let v = row_list(n);
-        return Point { reply: DONE, at: v };
-    }
-    points::no_point()
+    Point::from(row_named(rate, index))
 }

@@ -1,4 +1,8 @@
 // Tables 18 and 19 as repaired, packed.
+ghost use Rattle.std.specs.Prelude.{◌≡◌, ◌<◌};
+ghost use Rattle.codebook.specs.Codebook.{row};
+ghost use Rattle.codebook.specs.Packed.{code};
+ghost use Rattle.codebook.specs.Rows.{twos, signs};
 
 // Rows 0 to 127: 256 times the places of 2, and the places of -2
 pub const TWOS: [u16; 128] = [
@@ -22,3 +26,33 @@ pub const SIGNS: [u8; 128] = [
     249, 245, 237, 221, 189, 125, 243, 235, 219, 187, 123, 231, 215, 183, 119, 207, 175, 111, 159,
     95, 63, 255, 0,
 ];
+
+// The two tables. A search lends them, so that it copies them once.
+#[derive(Drop)]
+pub struct Tables {
+    low: [u16; 128],
+    high: [u8; 128],
+    ghost low_kept: { low ≡ twos },
+    ghost high_kept: { high ≡ signs },
+}
+
+impl Tables {
+    pub fn packed() -> Tables {
+        Tables {
+            low: TWOS,
+            high: SIGNS,
+        }
+    }
+
+    // The code of a row
+    pub fn code(&self, n: u8) -> u32
+        ensures { (result ≡ code (row n)) × (result < 65536) }
+    {
+        if n < 128 {
+            u32::from(self.low[usize::from(n)])
+        } else {
+            let s = u32::from(self.high[usize::from(n - 128)]);
+            (255 - s) * 256 + s
+        }
+    }
+}

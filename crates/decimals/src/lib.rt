@@ -2,7 +2,7 @@
 
 #![tactic(auto)]
 
-ghost use Rattle.std.specs.Prelude.{◌≡◌, ◌++◌, ◌+◌, ◌≤◌, ◌<◌, length};
+ghost use Rattle.std.specs.Prelude.{◌≡◌, ◌++◌, ◌+◌, ◌≤◌, length};
 ghost use Rattle.decimals.specs.Decimals.{digits, decimal};
 ghost use Rattle.ground.specs.Laying.{TextLaid};
 
@@ -13,39 +13,25 @@ pub fn put_digits(out: &mut [u8], at: usize, n: usize, k: usize) -> usize
     requires { at + k ≤ length out.old }
     ensures { TextLaid out.old at (digits k n) out.new result }
 {
-    let mut i = k;
     let mut rest = n;
-    while 0 < i {
-        i -= 1;
-        out[at + i] = 48 + (rest % 10) as u8;
+    for i in (0..k).rev() {
+        out[at + i] = b'0' + (rest % 10) as u8;
         rest /= 10;
     }
     at + k
 }
 
-// How many digits a number has.
+// How many digits a number has; 0 has one.
+#[tactic(auto, using(crate::proofs::Laws::Digits::width_told))]
 fn places(n: usize) -> usize
-    requires { n < 100000 }
     ensures { decimal n ≡ digits result n }
 {
-    if n < 10 {
-        return 1;
-    }
-    if n < 100 {
-        return 2;
-    }
-    if n < 1000 {
-        return 3;
-    }
-    if n < 10000 {
-        return 4;
-    }
-    5
+    n.max(1).ilog10() as usize + 1
 }
 
 // Puts a label and behind it a number, without zeros in front.
 pub fn put_number(out: &mut [u8], at: usize, label: &[u8], n: usize) -> usize
-    requires { (n < 100000) × (at + length (label.now ++ decimal n) ≤ length out.old) }
+    requires { at + length (label.now ++ decimal n) ≤ length out.old }
     ensures { TextLaid out.old at (label.now ++ decimal n) out.new result }
 {
     let behind = put(out, at, label);

@@ -49,6 +49,10 @@ read_answer src codes tail = cond (ltb codes 800) (refused short_room) (cond (lt
 abbrev pub flags_of : List Bool → Flags
 flags_of f = record { transient = is_transient f; l = flag_l f; n = flag_n f; c = flag_c f }
 
+-- a record's
+abbrev pub flags_for : Record → Flags
+flags_for r = record { transient = r.transient; l = r.flag_l; n = r.flag_n; c = r.flag_c }
+
 abbrev pub no_record : Record
 no_record =
     record { mode = 0; transient = false; flag_l = false; flag_n = false; flag_c = false; norms = replicate 44 0; noise = 0; tail_bits = 0 }

@@ -1,34 +1,29 @@
 -- What the functions of this crate promise each other.
 -- Assumes nothing.
 use Rattle.std.specs.Prelude.{◌≡◌, List, ◌++◌, ℕ, ◌+◌, ◌-◌, ◌*◌, ◌≤◌, length, drop}
+use Rattle.std.specs.declared.result.Result.{Result}
+use Rattle.std.specs.declared.result.Result.TheVariants.{Ok, Err}
 use Rattle.ground.specs.Replies.{done}
+use Rattle.ground.specs.Numbered.{number}
+use Rattle.ground.specs.declared.replies.Reply.{Reply}
 use Rattle.bits.specs.Bits.{view}
 use Rattle.bits.specs.Codings.{got}
 use Rattle.norms.specs.Part.{norm_part}
 use Rattle.frame.specs.Layout.{is_transient, flag_n}
 use Rattle.kinds.specs.Budget.{noise_bits}
-use Rattle.frame.specs.Answers.{Outcome, body_of, reading_of, codes_after, tail_after}
+use Rattle.frame.specs.Answers.{Outcome, body_of, stopped_at, reading_of, codes_after, tail_after}
 use Rattle.tails.specs.Tails.{tail_from}
-use Rattle.kinds.specs.declared.Flags.{Flags}
 use Rattle.frame.specs.declared.Reading.{Reading}
+use Rattle.frame.specs.declared.Record.{Record}
 
-abbrev pub made_reading : ℕ → ℕ → Flags → List ℕ → ℕ → ℕ → Reading
-made_reading mode next f ns z t =
-    record {
-      reply = done;
-      next = next;
-      «record» =
-          record {
-            mode = mode;
-            transient = f.transient;
-            flag_l = f.l;
-            flag_n = f.n;
-            flag_c = f.c;
-            norms = ns;
-            noise = z;
-            tail_bits = t;
-          };
-    }
+-- a body's record is answered with the place behind the prefix and the body, a refusal alone
+abbrev pub body_reading : ℕ → Result Record Reply → Reading
+body_reading n (Ok x) = record { reply = done; next = n + 1; «record» = x }
+body_reading n (Err r) = stopped_at (number r) 0
+
+abbrev pub data_reading : Result Reading Reply → Reading
+data_reading (Ok r) = r
+data_reading (Err r) = stopped_at (number r) 0
 
 -- ---- the norms
 

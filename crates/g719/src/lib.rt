@@ -24,10 +24,7 @@ ghost use Rattle.block_reader.specs.Reading as block_read;
 ghost use Rattle.block_writer.specs.Writing as block_written;
 
 use allotment::Shares;
-use boundary::{
-    Block, Byte, Choice, Prefix, Reading, Record, Records, block_out, byte_numbers, choice_out,
-    flag_in, prefix_numbers, reading_out, record_in, records_in,
-};
+use boundary::{Block, Byte, Choice, Prefix, Reading, Record, Records, flag_in};
 use channels::Copied;
 use codebook::Row;
 use layout::Parts;
@@ -42,14 +39,14 @@ use writer::Writing;
 pub extern "C" fn g719_read_prefix(src: &[u8]) -> Prefix
     ensures { result ≡ prefix_numbers (prefix_of src.now) }
 {
-    prefix_numbers(prefix::read_prefix(src))
+    prefix::read_prefix(src).into()
 }
 
 #[unsafe(no_mangle)]
 pub extern "C" fn g719_write_prefix(mode: u8) -> Byte
     ensures { result ≡ byte_numbers (byte_of mode) }
 {
-    byte_numbers(prefix::write_prefix(Mode(mode)))
+    prefix::write_prefix(Mode(mode)).into()
 }
 
 #[unsafe(no_mangle)]
@@ -58,7 +55,7 @@ pub extern "C" fn g719_read(src: &[u8], codes: &mut [u16], tail: &mut [u8]) -> R
         × (codes.new ≡ codes_after codes.old (read_answer src.now (length codes.old) (length tail.old)))
         × (tail.new ≡ tail_after tail.old (read_answer src.now (length codes.old) (length tail.old))) }
 {
-    reading_out(frame::read(src, codes, tail))
+    frame::read(src, codes, tail).into()
 }
 
 #[unsafe(no_mangle)]
@@ -66,14 +63,14 @@ pub extern "C" fn g719_write(record: Record, codes: &[u16], tail: &[u8], out: &m
     ensures { (result ≡ writing_of (write_reply (record_in «record») codes.now tail.now (length out.old)) «record».mode)
         × (out.new ≡ out_after (write_reply (record_in «record») codes.now tail.now (length out.old)) (record_in «record») codes.now tail.now out.old) }
 {
-    writer::write(record_in(record), codes, tail, out)
+    writer::write(record.into(), codes, tail, out)
 }
 
 #[unsafe(no_mangle)]
 pub extern "C" fn g719_layout(record: Record, codes: &[u16]) -> Parts
     ensures { result ≡ layout_of (record_in «record») codes.now }
 {
-    layout::layout(record_in(record), codes)
+    layout::layout(record.into(), codes)
 }
 
 #[unsafe(no_mangle)]
@@ -87,39 +84,35 @@ pub extern "C" fn g719_write_empty(out: &mut [u8]) -> Writing
 pub extern "C" fn g719_choose_flag_n(transient: u8, norms: &[u8; 44]) -> Choice
     ensures { result ≡ choice_out (flag_n (flag_in transient) norms.now) }
 {
-    let list = *norms;
-    choice_out(norms::choose_flag_n(flag_in(transient), list))
+    norms::choose_flag_n(flag_in(transient), *norms).into()
 }
 
 #[unsafe(no_mangle)]
 pub extern "C" fn g719_choose_flag_c(record: Record, codes: &[u16]) -> Choice
     ensures { result ≡ choice_out (flag_c (record_in «record») codes.now) }
 {
-    choice_out(choice::choose_flag_c(record_in(record), codes))
+    choice::choose_flag_c(record.into(), codes).into()
 }
 
 #[unsafe(no_mangle)]
 pub extern "C" fn g719_legalise(transient: u8, norms: &[u8; 44]) -> Legal
     ensures { result ≡ legalised (flag_in transient) norms.now }
 {
-    let list = *norms;
-    legal::legalise(flag_in(transient), list)
+    legal::legalise(flag_in(transient), *norms)
 }
 
 #[unsafe(no_mangle)]
 pub extern "C" fn g719_weigh(transient: u8, norms: &[u8; 44]) -> Weights
     ensures { result ≡ weighed (flag_in transient) norms.now }
 {
-    let list = *norms;
-    weights::weigh(flag_in(transient), list)
+    weights::weigh(flag_in(transient), *norms)
 }
 
 #[unsafe(no_mangle)]
 pub extern "C" fn g719_allot(transient: u8, wide: u8, norms: &[u8; 44], budget: u32) -> Shares
     ensures { result ≡ shares_of (flag_in transient) (flag_in wide) norms.now budget }
 {
-    let list = *norms;
-    allotment::allot(flag_in(transient), flag_in(wide), list, budget)
+    allotment::allot(flag_in(transient), flag_in(wide), *norms, budget)
 }
 
 #[unsafe(no_mangle)]
@@ -168,7 +161,7 @@ pub extern "C" fn g719_read_block(
         × (codes.new ≡ block_read.codes_after (block_read.block_reply src.now channels (length codes.old) (length tails.old)) src.now channels codes.old)
         × (tails.new ≡ block_read.tails_after (block_read.block_reply src.now channels (length codes.old) (length tails.old)) src.now channels tails.old) }
 {
-    block_out(block_reader::read_block(src, channels, codes, tails))
+    block_reader::read_block(src, channels, codes, tails).into()
 }
 
 #[unsafe(no_mangle)]
@@ -182,7 +175,7 @@ pub extern "C" fn g719_write_block(
     ensures { (result ≡ block_written.block_answer (block_written.block_reply (records_in records) channels codes.now tails.now (length out.old)) (records_in records) channels codes.now tails.now)
         × (out.new ≡ block_written.out_after (block_written.block_reply (records_in records) channels codes.now tails.now (length out.old)) (records_in records) channels codes.now tails.now out.old) }
 {
-    block_writer::write_block(records_in(records), channels, codes, tails, out)
+    block_writer::write_block(records.into(), channels, codes, tails, out)
 }
 
 #[unsafe(no_mangle)]

@@ -1,6 +1,5 @@
 -- The laws of this crate, for its own proofs and for the crates above.
 pub mod Cases
-pub mod Copies
 pub mod FillingLoops
 pub mod ListsByRule
 pub mod Indices
@@ -10,5 +9,6 @@ pub mod Refusals
 pub mod Runs
 pub mod Sums
 pub mod Differences
-pub mod Signed
 pub mod PrintedTables
+pub mod MadeByCalls
+pub mod Numbered

@@ -3,13 +3,13 @@
 use Rattle.std.specs.Prelude.{◌≡◌, List, ◌++◌, ℕ, ◌+◌, ◌-◌, ◌≤◌, length, replicate}
 use Rattle.ground.specs.ListsByRule.{table}
 use Rattle.frames.specs.Places.{place_of}
-use Rattle.joining.specs.Joining.{start_of, recording_at, block_of, InSource}
+use Rattle.joining.specs.Joining.{recording_at, block_of, InSource}
 use Rattle.joining.specs.declared.Progress.{Progress}
 
--- where frame b of each recording begins in the source; past their count 0
+-- where frame b begins in each recording; past their count 0
 abbrev pub places_at : List ℕ → List ℕ → ℕ → List ℕ
 places_at src lengths b =
-    table (length lengths) (λ c. start_of lengths c + place_of (recording_at src lengths c) b) ++ replicate (8 - length lengths) 0
+    table (length lengths) (λ c. place_of (recording_at src lengths c) b) ++ replicate (8 - length lengths) 0
 
 -- so many blocks are laid, behind them the next one has room
 pub record BlocksLaid (src lengths out : List ℕ) (t : Progress) : Type 0 where

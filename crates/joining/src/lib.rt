@@ -2,16 +2,17 @@
 
 #![tactic(auto)]
 
-ghost use Rattle.std.specs.Prelude.{◌≡◌, cond, false, List, ◌++◌, ℕ, ◌+◌, ◌≤◌, ◌<◌, eqb, length, drop};
+ghost use Rattle.std.specs.Prelude.{◌≡◌, ◌↔◌, IsTrue, EachIndex, MatchResult, slice_index, sum_by, ◌++◌, ◌+◌, ◌≤◌, ◌<◌, length, drop};
 ghost use Rattle.ground.specs.Laying.{TextLaid};
 ghost use Rattle.recording.specs.Walk.{most_frames};
-ghost use Rattle.joining.specs.Joining.{start_of, recording_at, own_check, block_of, joined, check_all, join_answer, join_after, InSource};
+ghost use Rattle.channels.specs.Copies.{made_copy};
+ghost use Rattle.joining.specs.Joining.{recording_at, own_check, block_of, joined, check_all, join_answer, join_after, InSource};
 ghost use Rattle.joining.specs.Inner.{places_at, BlocksLaid};
 
 use channels::Copied;
-use ground::replies::{DONE, SHORT_ROOM, WRONG_CHANNELS};
+use ground::replies::{DONE, Reply};
 
-// Where the joining stands: the blocks laid, where the next frame of each recording begins, and where the output goes on.
+// Where the joining stands: the blocks laid, where the next frame of each recording begins in it, and where the output goes on.
 #[derive(Clone, Copy)]
 pub struct Progress {
     pub block: u32,
@@ -19,85 +20,51 @@ pub struct Progress {
     pub next: usize,
 }
 
-// Where recording c begins: behind those in front of it.
-fn start_of(lengths: &[u32], c: usize) -> usize
-    requires { (c ≤ length lengths.now) × (c ≤ 8) }
-    ensures { (result ≡ start_of lengths.now c) × (result ≤ 34359738360) }
-{
-    let mut at: usize = 0;
-    let mut i: usize = 0;
-    while i < c {
-        at += lengths[i] as usize;
-        i += 1;
-    }
-    at
-}
-
-// Nothing laid yet: each recording goes on where it begins.
-fn first_progress(lengths: &[u32]) -> Progress
+// The bytes of recordings together.
+fn total(lengths: &[u32]) -> usize
     requires { length lengths.now ≤ 8 }
-    ensures { (result.block ≡ 0) × (result.next ≡ 0) × ((src : List ℕ) → result.places ≡ places_at src lengths.now 0) }
+    ensures { result ≡ sum_by (λ bytes. bytes) lengths.now }
 {
-    let mut places = [0usize; 8];
-    let mut c: usize = 0;
-    while c < lengths.len() {
-        places[c] = start_of(lengths, c);
-        c += 1;
-    }
-    Progress {
-        block: 0,
-        places,
-        next: 0,
-    }
+    lengths.iter().map(|bytes| *bytes as usize).sum()
 }
 
-// The count of the first recording.
-fn first_count(c: usize, first: u32, count: u32) -> u32
-    ensures { ((c ≡ 0) → result ≡ count) × (((c ≡ 0) → ⊥) → result ≡ first) }
+// Recording c, behind those in front of it.
+fn recording_at<'a>(src: &'a [u8], lengths: &[u32], c: usize) -> &'a [u8]
+    requires { InSource src.now lengths.now × (c < length lengths.now) }
+    ensures { result.now ≡ recording_at src.now lengths.now c }
 {
-    if c == 0 { count } else { first }
+    let start = total(&lengths[..c]);
+    &src[start..start + lengths[c] as usize]
 }
 
-// Whether the counts are equal with this one more.
-fn still_equal(equal: bool, count: u32, first: u32) -> bool
-    ensures { result ≡ cond equal (eqb count first) false }
+// Whether each count is the one.
+fn are_all(counts: &[u32], one: u32) -> bool
+    ensures { IsTrue result ↔ EachIndex counts.now (λ c. slice_index counts.now c ≡ one) }
 {
-    if equal {
-        return count == first;
-    }
-    false
+    counts.iter().all(|count| *count == one)
 }
 
-// Each recording's own check save 11, in order, then 17 for unequal counts; else 0 with the common count.
-fn check_all(src: &[u8], lengths: &[u32]) -> Copied
+// The common count, where each recording passes its own check save 11, in order, and then none has another count: else that check's answer, or 17.
+fn check_all(src: &[u8], lengths: &[u32]) -> Result<u32, Copied>
     requires { InSource src.now lengths.now × (1 ≤ length lengths.now) }
-    ensures { result ≡ check_all (own_check src.now lengths.now) (length lengths.now) }
+    ensures { MatchResult result
+        (λ count. made_copy 0 0 count 0 0 ≡ check_all (own_check src.now lengths.now) (length lengths.now))
+        (λ answer. (answer ≡ check_all (own_check src.now lengths.now) (length lengths.now)) × (0 < answer.reply)) }
 {
-    let mut first: u32 = 0;
-    let mut equal = true;
-    let mut c: usize = 0;
-    while c < lengths.len() {
-        let a = start_of(lengths, c);
-        let e = start_of(lengths, c + 1);
-        let found = recording::walk_blocks(&src[a..e], 1);
-        let reply = found.reply;
-        if reply != DONE {
-            return channels::stopped(found, c as u8 + 1);
+    let mut counts = [0; 8];
+    // One index for a recording, its number and its count.
+    for c in 0..lengths.len() {
+        let found = recording::walk_blocks(recording_at(src, lengths, c), 1);
+        if found.reply != DONE {
+            return Err(channels::stopped(found, c as u8 + 1));
         }
-        let count = found.count;
-        first = first_count(c, first, count);
-        equal = still_equal(equal, count, first);
-        c += 1;
+        counts[c] = found.count;
     }
-    if !equal {
-        return channels::refusal(WRONG_CHANNELS);
-    }
-    Copied {
-        reply: DONE,
-        which: 0,
-        count: first,
-        place: 0,
-        length: 0,
+    let count = counts[0];
+    if are_all(&counts[..lengths.len()], count) {
+        Ok(count)
+    } else {
+        Err(channels::refusal(Reply::WrongChannels.into()))
     }
 }
 
@@ -109,15 +76,13 @@ fn join_block(src: &[u8], lengths: &[u32], progress: Progress, out: &mut [u8]) -
 {
     let mut places = progress.places;
     let mut to = progress.next;
-    let mut c: usize = 0;
-    while c < lengths.len() {
-        let end = start_of(lengths, c + 1);
-        let rest = &src[..end];
+    // One index for a recording and its place.
+    for c in 0..lengths.len() {
+        let recording = recording_at(src, lengths, c);
         let p = places[c];
-        let e = p + frames::size_at(rest, p);
-        to = ground::bytes::put(out, to, &rest[p..e]);
+        let e = p + frames::size_at(recording, p);
+        to = ground::bytes::put(out, to, &recording[p..e]);
         places[c] = e;
-        c += 1;
     }
     Progress {
         block: progress.block + 1,
@@ -132,13 +97,17 @@ fn join_blocks(src: &[u8], lengths: &[u32], blocks: u32, out: &mut [u8])
     ensures { out.new ≡ joined (length lengths.now) blocks (recording_at src.now lengths.now)
         ++ drop (length (joined (length lengths.now) blocks (recording_at src.now lengths.now))) out.old }
 {
-    let mut progress = first_progress(lengths);
-    while progress.block < blocks {
+    let mut progress = Progress {
+        block: 0,
+        places: [0; 8],
+        next: 0,
+    };
+    for _ in 0..blocks {
         progress = join_block(src, lengths, progress, out);
     }
 }
 
-// Joins one_channel recordings, one behind the other in the source with a length for each: 17 for other than 1 to 8 lengths, 10 where they go past the
+// Joins one-channel recordings, one behind the other in the source with a length for each: 17 for other than 1 to 8 lengths, 10 where they go past the
 // source, each recording's own check save 11, 17 for unequal counts, and last 10 for the output. Only 0 changes the output.
 pub fn join(src: &[u8], lengths: &[u32], out: &mut [u8]) -> Copied
     ensures { (result ≡ join_answer src.now lengths.now (length out.old))
@@ -146,21 +115,19 @@ pub fn join(src: &[u8], lengths: &[u32], out: &mut [u8]) -> Copied
 {
     let n = lengths.len();
     if !recording::is_count(n) {
-        return channels::refusal(WRONG_CHANNELS);
+        return channels::refusal(Reply::WrongChannels.into());
     }
-    let total = start_of(lengths, n);
+    let total = total(lengths);
     if src.len() < total {
-        return channels::refusal(SHORT_ROOM);
+        return channels::refusal(Reply::ShortRoom.into());
     }
-    let found = check_all(src, lengths);
-    let reply = found.reply;
-    if reply != DONE {
-        return found;
-    }
+    let count = match check_all(src, lengths) {
+        Ok(count) => count,
+        Err(answer) => return answer,
+    };
     if out.len() < total {
-        return channels::refusal(SHORT_ROOM);
+        return channels::refusal(Reply::ShortRoom.into());
     }
-    let count = found.count;
     join_blocks(src, lengths, count, out);
     Copied {
         reply: DONE,

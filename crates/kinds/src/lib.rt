@@ -7,9 +7,8 @@ ghost use Rattle.allotment.specs.Allotment.{shares_of};
 ghost use Rattle.kinds.specs.Kinds.{band_of, kind_of, kinds};
 ghost use Rattle.kinds.specs.Budget.{noise_bits, all_compete, kinds_at};
 
-use ground::numbers::minus;
-
-#[derive(Clone, Copy)]
+// The four flags of a frame.
+#[derive(Clone, Copy, Debug, PartialEq, Eq)]
 pub struct Flags {
     pub transient: bool,
     pub l: bool,
@@ -18,65 +17,49 @@ pub struct Flags {
 }
 
 // The band of a place.
+#[tactic(auto, using(crate::proofs::Laws::Kinds::by_place))]
 fn band_of(i: usize) -> usize
     requires { i < 800 }
     ensures { (result ≡ band_of i) × (result < 44) }
 {
-    if i < 128 {
-        return i / 8;
+    match i {
+        0..128 => i / 8,
+        128..256 => 16 + (i - 128) / 16,
+        256..544 => 24 + (i - 256) / 24,
+        _ => 36 + (i - 544) / 32,
     }
-    if i < 256 {
-        return 16 + (i - 128) / 16;
-    }
-    if i < 544 {
-        return 24 + (i - 256) / 24;
-    }
-    36 + (i - 544) / 32
 }
 
 // The kind of a place, from its band's rate.
+#[tactic(auto, using(crate::proofs::Laws::Kinds::by_rate))]
 fn kind_of(flag_c: bool, rate: u8, i: usize) -> u8
     ensures { result ≡ kind_of flag_c rate i }
 {
-    if rate == 1 {
-        if i % 8 == 0 {
-            return 8;
-        }
-        return 0;
+    match rate {
+        1 if i % 8 == 0 => 8,
+        1 => 0,
+        2..=5 if flag_c => rate + words::CODE_WORDS,
+        _ => rate,
     }
-    if flag_c {
-        if 2 <= rate {
-            if rate <= 5 {
-                return rate + words::CODE_WORDS;
-            }
-        }
-    }
-    rate
 }
 
-// Eight places at a time: they lie in one band, and all but the first are of one kind.
+// Eight places at a time: they lie in one band, and all but the first are of one kind. Kinds are numbers, as rates are: an enum of nothing, widths and
+// words would be made from a rate and taken apart again for each place.
 pub fn all_kinds(flag_c: bool, rates: [u8; 44]) -> [u8; 800]
     ensures { result ≡ kinds flag_c rates }
 {
     let mut out = [0u8; 800];
-    let mut i: usize = 0;
-    while i < 800 {
+    for group in 0..100 {
+        let i = 8 * group;
         let rate = rates[band_of(i)];
-        let other = kind_of(flag_c, rate, i + 1);
+        out[i..i + 8].fill(kind_of(flag_c, rate, i + 1));
         out[i] = kind_of(flag_c, rate, i);
-        out[i + 1] = other;
-        out[i + 2] = other;
-        out[i + 3] = other;
-        out[i + 4] = other;
-        out[i + 5] = other;
-        out[i + 6] = other;
-        out[i + 7] = other;
-        i += 8;
     }
     out
 }
 
 // The noise bits: 2 if the frame is stationary.
+#[tactic(auto, using(crate::proofs::Laws::Budget::noise_none, crate::proofs::Laws::Budget::noise_two))]
 pub fn noise_bits(transient: bool) -> usize
     ensures { result ≡ noise_bits transient }
 {
@@ -88,7 +71,7 @@ pub fn noise_bits(transient: bool) -> usize
 fn all_compete(end: usize, flag_l: bool) -> bool
     ensures { result ≡ all_compete end flag_l }
 {
-    if end == 640 { flag_l } else { true }
+    end != 640 || flag_l
 }
 
 // The rates of the 44 bands in a body of `end` bits, from flags, norms and budget.
@@ -100,11 +83,14 @@ pub fn rates_for(flags: Flags, norms: [u8; 44], budget: u32, end: usize) -> [u8;
 }
 
 // The kinds of the 800 places, from flags and norms whose bits end at a place.
+#[tactic(auto, using(crate::proofs::Laws::Budget::kinds_made))]
 pub fn kinds_for(flags: Flags, norms: [u8; 44], at: usize, end: usize) -> [u8; 800]
     requires { end < 4294967296 }
     ensures { result ≡ kinds_at flags.transient (all_compete end flags.l) flags.c norms (end - at - noise_bits flags.transient) }
 {
-    let budget = minus(minus(end, at), noise_bits(flags.transient));
+    let budget = end
+        .saturating_sub(at)
+        .saturating_sub(noise_bits(flags.transient));
     let rates = rates_for(flags, norms, budget as u32, end);
     all_kinds(flags.c, rates)
 }

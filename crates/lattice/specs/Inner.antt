@@ -1,15 +1,8 @@
--- What the inner functions of the code promise each other: r, and the errors raised by 32768.
+-- What the inner functions of the code promise each other: the errors raised by 32768.
 -- Assumes nothing.
-use Rattle.std.specs.Prelude.{◌≡◌, List, ℕ, ◌+◌, ◌-◌, ◌%◌, ◌^◌, ◌≤◌, ◌<◌, length, get_or}
+use Rattle.std.specs.Prelude.{◌≡◌, List, ℕ, ◌+◌, ◌-◌, ◌≤◌, ◌<◌, length, get_or}
 use Rattle.ground.specs.Differences.{Is}
 use Rattle.lattice.specs.Lattice.{x, error}
-
-pub record Power (rate r : ℕ) : Type 0 where
-  pub is : r ≡ 2 ^ rate
-  pub low : 4 ≤ r
-  pub high : r ≤ 512
-  pub even : r % 2 ≡ 0
-  pub divides : 32768 % r ≡ 0
 
 -- u is the error of y, raised; no error is further from 0 than half of the largest r
 pub record Error (r y u : ℕ) : Type 0 where

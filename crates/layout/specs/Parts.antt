@@ -1,6 +1,10 @@
 -- How the bits of a record's frame part (01, Allotment, Coefficient codes): the budget, the 44 rates, the bits of the codes and those left for the tail.
 -- Assumes nothing.
 use Rattle.std.specs.Prelude.{Bool, cond, not, List, [], ◌∷◌, ◌++◌, map, ℕ, ◌-◌, ◌*◌, ltb, eqb, length, replicate, take}
+use Rattle.std.specs.declared.result.Result.{Result}
+use Rattle.std.specs.declared.result.Result.TheVariants.{Ok, Err}
+use Rattle.ground.specs.Numbered.{number}
+use Rattle.ground.specs.declared.replies.Reply.{Reply}
 use Rattle.ground.specs.Refusals.{Cause, ◌gives◌, first}
 use Rattle.ground.specs.Replies.{done, past_budget, out_of_range, short_room, wide_code}
 use Rattle.bits.specs.Codecs.{write_all}
@@ -70,6 +74,11 @@ layout_causes r cs = start_causes r (length cs) ++ code_causes (budget_for r) (k
 
 abbrev pub no_parts : ℕ → Parts
 no_parts reply = record { reply = reply; budget = 0; rates = replicate 44 0; code_bits = 0; tail_bits = 0 }
+
+-- a refusal comes alone
+abbrev pub parts_of : Result Parts Reply → Parts
+parts_of (Ok p) = p
+parts_of (Err r) = no_parts (number r)
 
 -- what the codes leave of Ψ is the tail
 abbrev pub parts_with : ℕ → List ℕ → ℕ → Parts

@@ -2,26 +2,27 @@
 
 #![tactic(auto)]
 
-ghost use Rattle.std.specs.Prelude.{◌≡◌, ℕ, ◌+◌, ◌≤◌, ◌<◌, min, get_or};
+ghost use Rattle.std.specs.Prelude.{◌≡◌, ℕ, ◌+◌, ◌≤◌, min, get_or};
 ghost use Rattle.legal.specs.Legal.{capped, lowered, held};
 ghost use Rattle.legal.specs.Answers.{legalised};
 
-use ground::numbers::smaller8;
-use ground::replies::{DONE, OUT_OF_RANGE};
+use ground::replies::{DONE, Reply};
 
-// What legalising answers: 0 with the legal norms in band order, or 8 with zeros.
+// What legalising answers: 0 with the legal norms in band order, or 8 with zeros. C reads this struct: g719_legalise hands it on.
 #[repr(C)]
-#[derive(Clone, Copy)]
+#[derive(Clone, Copy, Debug, PartialEq, Eq)]
 pub struct Legal {
     pub reply: u8,
     pub norms: [u8; 44],
 }
 
+// A first index over 31 becomes 31.
+#[tactic(auto, using(crate::proofs::Laws::Answers::cap_made))]
 fn cap(ss: [u8; 44]) -> [u8; 44]
     ensures { result ≡ capped ss }
 {
     let mut out = ss;
-    out[0] = smaller8(ss[0], 31);
+    out[0] = ss[0].min(31);
     out
 }
 
@@ -30,13 +31,9 @@ fn lower(ss: [u8; 44]) -> [u8; 44]
     requires { (k : ℕ) → get_or ss k 0 ≤ 39 }
     ensures { (result ≡ lowered ss) × ((k : ℕ) → get_or result k 0 ≤ 39) }
 {
-    let mut last = ss[43];
-    let mut out = [last; 44];
-    let mut i: usize = 43;
-    while 0 < i {
-        i -= 1;
-        last = smaller8(ss[i], last + 15);
-        out[i] = last;
+    let mut out = ss;
+    for i in (0..43).rev() {
+        out[i] = ss[i].min(out[i + 1] + 15);
     }
     out
 }
@@ -46,13 +43,9 @@ fn hold(ss: [u8; 44]) -> [u8; 44]
     requires { (k : ℕ) → get_or ss k 0 ≤ 39 }
     ensures { result ≡ held ss }
 {
-    let mut last = ss[0];
-    let mut out = [last; 44];
-    let mut i: usize = 0;
-    while i < 43 {
-        i += 1;
-        last = smaller8(ss[i], last + 16);
-        out[i] = last;
+    let mut out = ss;
+    for i in 1..44 {
+        out[i] = ss[i].min(out[i - 1] + 16);
     }
     out
 }
@@ -63,7 +56,7 @@ pub fn legalise(transient: bool, norms: [u8; 44]) -> Legal
 {
     if !ground::indices::in_range(&norms) {
         return Legal {
-            reply: OUT_OF_RANGE,
+            reply: u8::from(Reply::OutOfRange),
             norms: [0u8; 44],
         };
     }

@@ -2,7 +2,6 @@
 pub mod LastOffers
 pub mod LoopTurns
 pub mod GrantedLevel
-pub mod HighestBid
 pub mod OfferOrder
 pub mod Serving
 pub mod GameAsLists

@@ -1,6 +1,6 @@
 -- What the functions of this crate promise each other.
 -- Assumes nothing.
-use Rattle.std.specs.Prelude.{◌≡◌, cond, ◌&&◌, Bool, List, ℕ, ◌+◌, ◌-◌, ◌*◌, ◌<◌, zero, suc, ◌%◌, ◌/◌, max, min, ltb, leb, length}
+use Rattle.std.specs.Prelude.{◌≡◌, ◌≤◌, cond, ◌&&◌, Bool, List, ℕ, ◌+◌, ◌-◌, ◌*◌, ◌<◌, zero, suc, ◌%◌, ◌/◌, max, min, ltb, leb, length}
 use Rattle.ground.specs.ListsByRule.{table}
 use Rattle.ground.specs.Sums.{nth, sum_to}
 use Rattle.contest.specs.Bands.{length_of, competing}
@@ -52,6 +52,12 @@ highest f (suc n) = max (highest f n) (f n)
 -- a spot above 0 has its band in its lowest six bits
 abbrev pub Keyed : List ℕ → Type 0
 Keyed keys = (p : ℕ) → p < 44 → 0 < nth keys p → nth keys p % 64 ≡ 63 - p
+
+-- no band bids higher than q, which bids above 0
+pub record Leading (keys rates : List ℕ) (left q : ℕ) : Type 0 where
+  pub inside : q < 44
+  pub bids : 0 < bid_at keys rates left q
+  pub high : (p : ℕ) → p < 44 → bid_at keys rates left p ≤ bid_at keys rates left q
 
 -- no bid is left, and the contest ends alike from both
 pub record Finished (keys rates : List ℕ) (left : ℕ) (rates' : List ℕ) (left' : ℕ) : Type 0 where

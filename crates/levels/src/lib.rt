@@ -3,14 +3,12 @@
 
 #![tactic(auto)]
 
-ghost use Rattle.std.specs.Prelude.{length, ◌≡◌, ℕ, ◌+◌, ◌-◌, ◌*◌, ◌/◌, ◌≤◌, ◌<◌};
+ghost use Rattle.std.specs.Prelude.{length, ◌≡◌, ℕ, ◌+◌, ◌-◌, ◌*◌, ◌/◌, ◌≤◌, ◌<◌, MatchOption};
 ghost use Rattle.ground.specs.ListsByRule.{table};
 ghost use Rattle.ground.specs.Sums.{nth};
 ghost use Rattle.contest.specs.Bands.{length_of, competing};
-ghost use Rattle.levels.specs.Inner.{climb, bill, bid, bid_at, highest, Keyed, Finished, key_of, keys_of};
+ghost use Rattle.levels.specs.Inner.{climb, bill, bid, bid_at, highest, Keyed, Leading, Finished, key_of, keys_of};
 ghost use Rattle.levels.specs.Levels.{Room, settled};
-
-use ground::numbers::{larger16, minus16};
 
 #[derive(Clone, Copy)]
 pub struct Ends {
@@ -18,51 +16,44 @@ pub struct Ends {
     pub left: u16,
 }
 
-const LENGTHS: [u16; 44] = [
+static LENGTHS: [u16; 44] = [
     8, 8, 8, 8, 8, 8, 8, 8, 8, 8, 8, 8, 8, 8, 8, 8, 16, 16, 16, 16, 16, 16, 16, 16, 24, 24, 24, 24,
     24, 24, 24, 24, 24, 24, 24, 24, 32, 32, 32, 32, 32, 32, 32, 32,
 ];
 
-// The lengths by band, laid out once for a call.
-fn lengths() -> [u16; 44]
-    ensures { result ≡ table 44 length_of }
+fn length_of(p: usize) -> u16
+    requires { p < 44 }
+    ensures { (result ≡ length_of p) × (result ≤ 32) }
 {
-    LENGTHS
+    LENGTHS[p]
 }
 
 fn climb_of(key: u16, level: u16) -> u16
     ensures { (result ≡ climb key level) × (result ≤ 9) }
 {
-    let d = minus16(key, level) / 2048;
-    if d < 9 { d } else { 9 }
+    (key.saturating_sub(level) / 2048).min(9)
 }
 
-fn bill_of(keys: &[u16; 44], sizes: &[u16; 44], level: u16) -> u16
-    requires { sizes.now ≡ table 44 length_of }
+fn bill_of(keys: &[u16; 44], level: u16) -> u16
     ensures { result ≡ bill keys.now level 44 }
 {
-    let mut sum: u16 = 0;
-    let mut i = 0;
-    while i < 44 {
-        sum += climb_of(keys[i], level) * sizes[i];
-        i += 1;
+    let mut sum = 0;
+    for (p, key) in keys.iter().enumerate() {
+        sum += climb_of(*key, level) * length_of(p);
     }
     sum
 }
 
 // The level is found by halving; that it is the lowest one that the budget pays matters for speed alone.
-fn level_of(keys: &[u16; 44], sizes: &[u16; 44], budget: u16) -> u16
-    requires { (sizes.now ≡ table 44 length_of) × ((p : ℕ) → p < 44 → nth keys.now p ≤ 65535) }
+fn level_of(keys: &[u16; 44], budget: u16) -> u16
     ensures { bill keys.now result 44 ≤ budget }
 {
-    let mut level: u16 = 65535;
-    let mut step: u16 = 32768;
-    while 0 < step {
-        let lower = minus16(level, step);
-        if bill_of(keys, sizes, lower) <= budget {
+    let mut level = u16::MAX;
+    for bit in (0..16u32).rev() {
+        let lower = level.saturating_sub(1 << bit);
+        if bill_of(keys, lower) <= budget {
             level = lower;
         }
-        step = step / 2;
     }
     level
 }
@@ -70,54 +61,55 @@ fn level_of(keys: &[u16; 44], sizes: &[u16; 44], budget: u16) -> u16
 fn climbs(keys: &[u16; 44], level: u16) -> [u8; 44]
     ensures { result ≡ table 44 (λ p. climb (nth keys.now p) level) }
 {
-    let mut out = [0u8; 44];
-    let mut i = 0;
-    while i < 44 {
-        out[i] = climb_of(keys[i], level) as u8;
-        i += 1;
-    }
-    out
+    std::array::from_fn(|p| climb_of(keys[p], level) as u8)
 }
 
 fn bid_of(key: u16, size: u16, rate: u8, left: u16) -> u16
     ensures { result ≡ bid key size rate left }
 {
-    if size <= left {
-        if rate < 9 {
-            return minus16(key, 2048 * (rate as u16));
-        }
+    if size <= left && rate < 9 {
+        key.saturating_sub(2048 * u16::from(rate))
+    } else {
+        0
     }
-    0
 }
 
-// The highest bid: its band stands in its lowest six bits.
-fn top_bid(keys: &[u16; 44], sizes: &[u16; 44], rates: &[u8; 44], left: u16) -> u16
-    requires { sizes.now ≡ table 44 length_of }
+// The highest bid, 0 if no band bids.
+fn top_bid(keys: &[u16; 44], rates: &[u8; 44], left: u16) -> u16
     ensures { result ≡ highest (bid_at keys.now rates.now left) 44 }
 {
     let mut top: u16 = 0;
-    let mut i = 0;
-    while i < 44 {
-        top = larger16(top, bid_of(keys[i], sizes[i], rates[i], left));
-        i += 1;
+    for p in 0..44 {
+        top = top.max(bid_of(keys[p], length_of(p), rates[p], left));
     }
     top
 }
 
-fn serve_rest(keys: &[u16; 44], sizes: &[u16; 44], start: [u8; 44], budget: u16) -> Ends
-    requires { (sizes.now ≡ table 44 length_of) × Keyed keys.now × (length start ≡ 44) }
+// The band with the highest bid, if any bids: it stands in the bid's lowest six bits.
+fn leading(keys: &[u16; 44], rates: &[u8; 44], left: u16) -> Option<usize>
+    requires { Keyed keys.now }
+    ensures { MatchOption result ((p : ℕ) → p < 44 → bid_at keys.now rates.now left p ≡ 0) (Leading keys.now rates.now left) }
+{
+    if left < 8 {
+        return None;
+    }
+    let top = top_bid(keys, rates, left);
+    if top == 0 {
+        None
+    } else {
+        Some(usize::from(63 - top % 64))
+    }
+}
+
+fn serve_rest(keys: &[u16; 44], start: [u8; 44], budget: u16) -> Ends
+    requires { Keyed keys.now × (length start ≡ 44) }
     ensures { Finished keys.now start budget result.rates result.left }
 {
     let mut rates = start;
     let mut left = budget;
-    while 8 <= left {
-        let top = top_bid(keys, sizes, &rates, left);
-        if top == 0 {
-            return Ends { rates, left };
-        }
-        let q = (63 - top % 64) as usize;
-        rates[q] = rates[q] + 1;
-        left -= sizes[q];
+    while let Some(q) = leading(keys, &rates, left) {
+        rates[q] += 1;
+        left -= length_of(q);
     }
     Ends { rates, left }
 }
@@ -129,12 +121,12 @@ pub fn competes(wide: bool, p: usize) -> bool
     wide || p < 36
 }
 
+// 0 for a band that is out, as the definition has it: every bid stands above it, so one maximum finds who leads.
 fn key_of(wide: bool, p: usize, height: u16) -> u16
     requires { (p < 44) × (height ≤ 976) }
     ensures { result ≡ key_of wide p height }
 {
-    let c = competes(wide, p);
-    if c {
+    if competes(wide, p) {
         64 * height + (63 - (p as u16)) + 2048
     } else {
         0
@@ -145,13 +137,7 @@ fn keys_of(wide: bool, heights: &[u16; 44]) -> [u16; 44]
     requires { Room heights.now }
     ensures { result ≡ keys_of wide heights.now }
 {
-    let mut out = [0u16; 44];
-    let mut i = 0;
-    while i < 44 {
-        out[i] = key_of(wide, i, heights[i]);
-        i += 1;
-    }
-    out
+    std::array::from_fn(|p| key_of(wide, p, heights[p]))
 }
 
 // The rates and the bits left at the end of the contest that starts from these scores, each raised by 368.
@@ -160,9 +146,7 @@ pub fn settle(wide: bool, heights: &[u16; 44], budget: u16) -> Ends
     ensures { result ≡ settled wide heights.now budget }
 {
     let keys = keys_of(wide, heights);
-    let sizes = lengths();
-    let level = level_of(&keys, &sizes, budget);
-    let cost = bill_of(&keys, &sizes, level);
+    let level = level_of(&keys, budget);
     let start = climbs(&keys, level);
-    serve_rest(&keys, &sizes, start, budget - cost)
+    serve_rest(&keys, start, budget - bill_of(&keys, level))
 }

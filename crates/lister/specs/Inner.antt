@@ -1,15 +1,9 @@
 -- What the functions of this crate promise each other.
 -- Assumes nothing.
-use Rattle.std.specs.Prelude.{ℕ, ◌≤◌, min, List, ℤ, pos, negsuc, length}
-use Rattle.lister.specs.declared.Input.{Input}
-use Rattle.lister.specs.declared.Input.TheVariants.{Bytes, Failed}
+use Rattle.std.specs.Prelude.{ℕ, zero, suc, Option, Some, None, Result, Ok, Err}
 
--- the answer of a read into n bytes: a negative one says that it failed, any other how many bytes there are, 0 at the end
-unfoldable pub told : ℤ → ℕ → Input
-told (pos k) n = Bytes (min k n)
-told (negsuc k) n = Failed
-
--- the bytes lie in the room
-abbrev pub Within : Input → List ℕ → Type 0
-Within (Bytes n) room = n ≤ length room
-Within Failed room = Unit {0}
+-- what a read says: how many bytes there are, none at the end of the input; one that fails is not the end
+abbrev pub told : {E : Type 0} → Result ℕ E → Result (Option ℕ) E
+told (Ok zero) = Ok None
+told (Ok (suc k)) = Ok (Some (suc k))
+told (Err e) = Err e

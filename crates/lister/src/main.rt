@@ -3,8 +3,8 @@
 
 #![tactic(auto)]
 
-ghost use Rattle.std.specs.Prelude.{◌≡◌, length};
-ghost use Rattle.lister.specs.Inner.{told, Within};
+ghost use Rattle.std.specs.Prelude.{◌≡◌, ◌≤◌, length, IfOk};
+ghost use Rattle.lister.specs.Inner.{told};
 
 use std::env::FillError;
 use std::io::Read;
@@ -15,70 +15,36 @@ const STDOUT_FILENO: i32 = 1;
 
 const STDERR_FILENO: i32 = 2;
 
-// What a read gave: so many bytes, none at the end of the input; or that it failed.
-#[derive(Drop)]
-enum Input {
-    Bytes(usize),
-    Failed,
-}
+// The most bytes of an input and one byte more, which shows that it is too long.
+const MOST_INPUT: usize = 65537;
 
-// What the answer of a read into the part says.
-#[tactic(auto, using(crate::proofs::Laws::Told::told_negative, crate::proofs::Laws::Told::told_counted))]
-fn told(answer: isize, part: &[u8]) -> Input
-    ensures { result ≡ told answer (length part.now) }
+// What a read says: how many bytes it gave, none at the end of the input. One that fails is not the end.
+fn told(read: std::io::Result<usize>) -> std::io::Result<Option<usize>>
+    ensures { result ≡ told read }
 {
-    if answer < 0 {
-        return Input::Failed;
-    }
-    Input::Bytes(io::count(answer, part))
-}
-
-// The answer of one read into the part: how many bytes it gave, or -1 where it failed.
-fn read(stdin: &mut Stdin, part: &mut [u8]) -> isize {
-    match stdin.read(part) {
-        Ok(n) => n as isize,
-        Err(_) => -1,
-    }
-}
-
-// Reads once into the part.
-fn read_some(stdin: &mut Stdin, part: &mut [u8]) -> Input
-    ensures { Within result part.new }
-{
-    let answer = read(stdin, part);
-    told(answer, part)
+    let n = read?;
+    Ok((0 < n).then_some(n))
 }
 
 // Reads until the input ends, the room is full or a read fails. Bytes that came before a failure are not kept.
-fn read_input(stdin: &mut Stdin, room: &mut [u8]) -> Input
-    ensures { Within result room.new }
+fn read_input(stdin: &mut Stdin, room: &mut [u8]) -> std::io::Result<usize>
+    ensures { IfOk result (λ n. n ≤ length room.new) }
 {
-    let mut at: usize = 0;
+    let mut at = 0;
     while at < room.len() {
-        let got = read_some(stdin, &mut room[at..]);
-        let Input::Bytes(n) = got else {
-            return Input::Failed;
+        let Some(n) = told(stdin.read(&mut room[at..]))? else {
+            break;
         };
-        if n == 0 {
-            return Input::Bytes(at);
-        }
         at += n;
     }
-    Input::Bytes(at)
+    Ok(at)
 }
 
-// Room for the most bytes of an input and one byte more, which shows that it is too long.
-fn input_room() -> [u8; 65537]
-    ensures { 65537 ≡ length result }
+// Room of so many bytes. A function, so that a proof knows its length and not each byte.
+fn room<const N: usize>() -> [u8; N]
+    ensures { length result ≡ N }
 {
-    [0; 65537]
-}
-
-// Room for every listing.
-fn output_room() -> [u8; 33030]
-    ensures { 33030 ≡ length result }
-{
-    [0; 33030]
+    [0; N]
 }
 
 // Writes to standard output. The lister ends with 0 whatever happens, so a failure is told on standard error.
@@ -89,19 +55,16 @@ fn write_out(text: &[u8]) {
 }
 
 fn write_listing(input: &[u8]) {
-    let mut out = output_room();
-    let listed = listing::list(input, &mut out);
-    let m = listed.length;
-    write_out(&out[..m]);
+    let mut out = room::<{ listing::ROOM }>();
+    if let Ok(n) = listing::list(input, &mut out) {
+        write_out(&out[..n]);
+    }
 }
 
 // Whether an argument was given.
 fn has_argument(rt: &impl Env) -> bool {
     let mut first = [0u8; 1];
-    match rt.arg(1, &mut first) {
-        Err(FillError::NotPresent) => false,
-        _ => true,
-    }
+    !matches!(rt.arg(1, &mut first), Err(FillError::NotPresent))
 }
 
 fn main(rt: HostRuntime) {
@@ -109,12 +72,10 @@ fn main(rt: HostRuntime) {
         write_out(b"usage: lister < recording\n");
         return;
     }
-    let mut room = input_room();
+    let mut input = room::<MOST_INPUT>();
     let mut stdin = rt.stdin();
-    let input = read_input(&mut stdin, &mut room);
-    let Input::Bytes(n) = input else {
-        write_out(b"input not read\n");
-        return;
-    };
-    write_listing(&room[..n]);
+    match read_input(&mut stdin, &mut input) {
+        Ok(n) => write_listing(&input[..n]),
+        Err(_) => write_out(b"input not read\n"),
+    }
 }

@@ -1,13 +1,14 @@
 -- The listing of a recording (01, Lister): a line for each frame, the refused one too, and the total line.
 -- Assumes nothing.
-use Rattle.std.specs.Prelude.{cond, List, [], ◌∷◌, ◌++◌, ℕ, zero, suc, ◌+◌, ltb, length, drop}
+use Rattle.std.specs.Prelude.{cond, List, [], ◌∷◌, ◌++◌, ℕ, zero, suc, ◌+◌, ltb, length, drop, Result, Ok, Err}
 use Rattle.ground.specs.Replies.{done, short_room, no_data}
+use Rattle.ground.specs.Numbered.{number}
+use Rattle.ground.specs.declared.replies.Reply.{Reply}
 use Rattle.prefix.specs.Sizes.{mode_bytes}
 use Rattle.frame.specs.Answers.{Outcome, refused, empty, sound}
 use Rattle.recording.specs.Walk.{stored_at, walk, most_frames}
 use Rattle.recording.specs.declared.answer.Check.{Check}
 use Rattle.listing.specs.Text.{frame_line, total_line, too_long}
-use Rattle.listing.specs.declared.Listing.{Listing}
 
 -- a frame's line, and behind a sound frame the lines of the part after it; a refused frame has 0 body bytes
 unfoldable pub line_of : ℕ → Outcome → (ℕ → List ℕ) → List ℕ
@@ -33,6 +34,15 @@ listing_of src = cond (ltb most_bytes (length src)) too_long (lines most_frames 
 -- room for every listing: 3,000 lines of 11 bytes and a total of 30
 abbrev pub room : ℕ
 room = 33030
+
+-- what listing answers: the number, and how long the text is
+pub record Listing : Type 0 where
+  pub reply : ℕ
+  pub length : ℕ
+
+abbrev pub answer_of : Result ℕ Reply → Listing
+answer_of (Ok n) = record { reply = done; length = n }
+answer_of (Err x) = record { reply = number x; length = 0 }
 
 -- 10 if the room is short
 unfoldable pub listed_in : List ℕ → ℕ → Listing

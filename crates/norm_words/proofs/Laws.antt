@@ -1,3 +1,2 @@
 -- The laws of this crate, for its own proofs and for the crates above.
-pub mod Answers
 pub mod Shape

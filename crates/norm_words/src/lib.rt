@@ -5,23 +5,22 @@
 ghost use Rattle.std.specs.Prelude.{◌≡◌, ◌+◌, ◌≤◌, ◌<◌};
 ghost use Rattle.norm_words.specs.Shape.{word_in, middle, at_least, more_bits, seven_of, spelling, step_size, beyond};
 
-use ground::numbers::size_from_u8;
-
 // A word among seven bits: the number that it names, and how many of the bits it has.
-#[derive(Clone, Copy)]
+#[derive(Clone, Copy, Debug, PartialEq, Eq)]
 pub struct Found {
     pub number: usize,
     pub bits: usize,
 }
 
 // A word as so many bits of a number.
-#[derive(Clone, Copy)]
+#[derive(Clone, Copy, Debug, PartialEq, Eq)]
 pub struct Spelling {
     pub bits: usize,
     pub value: usize,
 }
 
 // The word with which seven bits begin: a 0 as third bit ends it, else a 0 as fourth, else a 0 as sixth whatever the fifth is, else it has all seven.
+#[tactic(auto, unfolding(crate::specs::Shape::word_in))]
 pub fn word_in(seven: usize) -> Found
     ensures { (result ≡ word_in seven) × (result.bits ≤ 7) × (result.number ≤ seven + 28) }
 {
@@ -53,6 +52,7 @@ pub fn word_in(seven: usize) -> Found
 }
 
 // How far a number under 32 is from the middle: 0 for 15 and 16, and 15 for 0 and 31.
+#[tactic(auto, unfolding(crate::specs::Shape::middle))]
 fn from_middle(number: u8) -> u8
     ensures { result ≡ middle number }
 {
@@ -67,10 +67,11 @@ fn from_middle(number: u8) -> u8
 fn at_least(far: u8, k: u8) -> u8
     ensures { (result ≡ at_least far k) × (result ≤ 1) }
 {
-    if far < k { 0 } else { 1 }
+    u8::from(k <= far)
 }
 
 // What a word has over three bits, by how far its number is from the middle.
+#[tactic(auto, unfolding(crate::specs::Shape::more_bits))]
 pub fn more_bits(far: u8) -> u8
     ensures { (result ≡ more_bits far) × (result ≤ 4) }
 {
@@ -78,6 +79,7 @@ pub fn more_bits(far: u8) -> u8
 }
 
 // The seven bits of which the word of a number is the first.
+#[tactic(auto, unfolding(crate::specs::Shape::seven_of))]
 fn seven_of(number: u8, far: u8) -> u8
     ensures { result ≡ seven_of number far }
 {
@@ -90,6 +92,7 @@ fn seven_of(number: u8, far: u8) -> u8
 }
 
 // The word of a number: it begins with the number's last two bits, and is the longer the further the number is from the middle. No bits from 32 on.
+#[tactic(auto, unfolding(crate::specs::Shape::spelling))]
 pub fn spelling_of(number: usize) -> Spelling
     ensures { (result ≡ spelling number) × (result.bits ≤ 7) × (result.value < 256) }
 {
@@ -101,22 +104,21 @@ pub fn spelling_of(number: usize) -> Spelling
     let more = more_bits(far);
     let seven = seven_of(number, far);
     Spelling {
-        bits: size_from_u8(3 + more),
-        value: size_from_u8(seven >> (4 - more)),
+        bits: usize::from(3 + more),
+        value: usize::from(seven >> (4 - more)),
     }
 }
 
 // 1 where a step goes up by more than 16, so that its number has no word.
+#[tactic(auto, unfolding(crate::specs::Shape::beyond))]
 pub fn beyond(x: u8, y: u8) -> u8
     ensures { (result ≡ beyond x y) × (result ≤ 1) }
 {
-    if x < y {
-        return at_least(y - x, 17);
-    }
-    0
+    at_least(y.saturating_sub(x), 17)
 }
 
 // How far the number of the step from one index to the next is from the middle.
+#[tactic(auto, unfolding(crate::specs::Shape::step_size))]
 pub fn step_size(x: u8, y: u8) -> u8
     ensures { result ≡ step_size x y }
 {

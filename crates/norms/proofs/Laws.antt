@@ -6,5 +6,6 @@ pub mod Loops
 pub mod StepBits
 pub mod Part
 pub mod Reads
+pub mod Replies
 pub mod Steps
 pub mod NeverRefused

@@ -2,66 +2,39 @@
 
 #![tactic(auto)]
 
-ghost use Rattle.std.specs.Prelude.{◌≡◌, ◌+◌, ◌-◌, ◌≤◌, ◌<◌, leb, length};
+ghost use Rattle.std.specs.Prelude.{◌≡◌, ◌+◌, ◌-◌, ◌≤◌, ◌<◌, leb, length, IfOk};
+ghost use Rattle.ground.specs.Numbered.{number, reply_of};
 ghost use Rattle.bits.specs.Bits.{view, laid};
 ghost use Rattle.order.specs.SentOrder.{sent};
 ghost use Rattle.norms.specs.Steps.{indices, numbers, steps_close};
 ghost use Rattle.norms.specs.Part.{norm_kinds, norm_part, norm_bits};
-ghost use Rattle.norms.specs.Answers.{part_of, norm_reply, word_total, choice_of};
+ghost use Rattle.norms.specs.Answers.{part_of, norm_reply, word_total, answered, choice_of};
 ghost use Rattle.norms.specs.Inner.{indices_of, step_total};
 
-use ground::numbers::{larger8, minus16, size_from_u8, size_from_u16, u16_from_u8};
-use ground::replies::{DONE, FAR_APART, NORM_OUTSIDE, OUT_OF_RANGE};
-use runs::Run;
+use ground::replies::Reply;
 
-// What reading the norm part answers: 0 with the next place and the norms in band order, or 5 or 7 with zeros.
-#[derive(Clone, Copy)]
+// The norms in band order that a norm part holds, and the place behind it.
+#[derive(Clone, Copy, Debug, PartialEq, Eq)]
 pub struct NormPart {
-    pub reply: u8,
     pub next: usize,
     pub norms: [u8; 44],
 }
 
-// What a choice of a flag answers.
-#[repr(C)]
-#[derive(Clone, Copy)]
-pub struct Choice {
-    pub reply: u8,
-    pub flag: bool,
-}
-
-#[derive(Drop)]
-struct Indices {
-    sound: bool,
-    norms: [u8; 44],
-}
-
-// The indices in sent order from the numbers sent; unsound where one leaves 0 to 39.
-fn indices_of(ws: [u16; 44]) -> Indices
+// The indices in sent order from the numbers sent; none where one leaves 0 to 39.
+fn indices_of(ws: [u16; 44]) -> Option<[u8; 44]>
     ensures { result ≡ indices_of (indices 15 ws) }
 {
     let mut norms = [0u8; 44];
     let mut x: usize = 15;
-    let mut i: usize = 0;
-    while i < 44 {
-        let y = x + size_from_u16(ws[i]);
-        if y < 15 {
-            return Indices {
-                sound: false,
-                norms: [0u8; 44],
-            };
-        }
-        if 54 < y {
-            return Indices {
-                sound: false,
-                norms: [0u8; 44],
-            };
+    for (i, w) in ws.iter().enumerate() {
+        let y = x + usize::from(*w);
+        if !(15..=54).contains(&y) {
+            return None;
         }
         x = y - 15;
         norms[i] = x as u8;
-        i += 1;
     }
-    Indices { sound: true, norms }
+    Some(norms)
 }
 
 // The numbers sent for indices in sent order.
@@ -70,58 +43,40 @@ fn numbers_of(ss: [u8; 44]) -> [u16; 44]
 {
     let mut out = [0u16; 44];
     let mut x: u16 = 15;
-    let mut i: usize = 0;
-    while i < 44 {
-        let y = u16_from_u8(ss[i]);
-        out[i] = minus16(y + 15, x);
+    for (i, s) in ss.iter().enumerate() {
+        let y = u16::from(*s);
+        out[i] = (y + 15).saturating_sub(x);
         x = y;
-        i += 1;
     }
     out
 }
 
 // 5 bits for the first number, and for the others 5 bits or a norm word.
+#[tactic(auto, unfolding(crate::specs::Part::norm_kinds))]
 fn norm_kinds(flag_n: bool) -> [u8; 44]
     ensures { result ≡ norm_kinds flag_n }
 {
-    if !flag_n {
-        return [5u8; 44];
-    }
-    let mut kinds = [words::NORM_WORDS; 44];
+    let mut kinds = [if flag_n { words::NORM_WORDS } else { 5 }; 44];
     kinds[0] = 5;
     kinds
 }
 
 // The norm part at a place, all of it before the end.
-pub fn read_norms(s: &[u8], at: usize, end: usize, transient: bool, flag_n: bool) -> NormPart
+pub fn read_norms(
+    s: &[u8],
+    at: usize,
+    end: usize,
+    transient: bool,
+    flag_n: bool,
+) -> Result<NormPart, Reply>
     ensures { result ≡ part_of at (end - at) ((norm_part transient flag_n).read (view s.now at (end - at))) }
 {
     let mut ws = [0u16; 44];
     let kinds = norm_kinds(flag_n);
-    let run = short_words::read_short_words(s, at, end, &kinds, &mut ws);
-    let Run::Done(next) = run else {
-        return NormPart {
-            reply: runs::run_reply(run),
-            next: 0,
-            norms: [0u8; 44],
-        };
-    };
-    let found = indices_of(ws);
-    let sound = found.sound;
-    if !sound {
-        return NormPart {
-            reply: NORM_OUTSIDE,
-            next: 0,
-            norms: [0u8; 44],
-        };
-    }
-    let ss = found.norms;
+    let next = short_words::read_short_words(s, at, end, &kinds, &mut ws)?;
+    let ss = indices_of(ws).ok_or(Reply::NormOutside)?;
     let norms = order::band_order(transient, ss);
-    NormPart {
-        reply: DONE,
-        next,
-        norms,
-    }
+    Ok(NormPart { next, norms })
 }
 
 // Writes the norm part at a place, and gives how many bits it has.
@@ -135,7 +90,7 @@ pub fn write_norms(s: &mut [u8], at: usize, transient: bool, flag_n: bool, norms
 }
 
 // The differences of norms in sent order: the furthest of their numbers from the middle, and how many bits their 43 words have.
-#[derive(Drop)]
+#[derive(Clone, Copy)]
 struct Steps {
     far: u8,
     bits: usize,
@@ -149,19 +104,15 @@ fn count_steps(ss: [u8; 44]) -> Steps
     let mut far: u8 = 0;
     let mut more: u8 = 0;
     let mut lost: u8 = 0;
-    let mut i: usize = 0;
-    while i < 43 {
-        let x = ss[i];
-        let y = ss[i + 1];
-        let size = norm_words::step_size(x, y);
-        far = larger8(far, size);
+    for pair in ss.windows(2) {
+        let size = norm_words::step_size(pair[0], pair[1]);
+        far = far.max(size);
         more += norm_words::more_bits(size);
-        lost += norm_words::beyond(x, y);
-        i += 1;
+        lost += norm_words::beyond(pair[0], pair[1]);
     }
     Steps {
         far,
-        bits: 129 + size_from_u8(more) - 7 * size_from_u8(lost),
+        bits: 129 + usize::from(more) - 7 * usize::from(lost),
     }
 }
 
@@ -173,72 +124,45 @@ fn steps_of(transient: bool, norms: [u8; 44]) -> Steps
 }
 
 // How many bits the norm part has: five for each index, or five for the first and the words of the differences.
+#[tactic(auto, using(crate::proofs::Laws::Part::bits_plain, crate::proofs::Laws::Part::bits_words))]
 pub fn norm_bits(transient: bool, flag_n: bool, norms: [u8; 44]) -> usize
     ensures { result ≡ length (norm_bits transient flag_n norms) }
 {
-    if !flag_n {
-        return 220;
+    if flag_n {
+        5 + steps_of(transient, norms).bits
+    } else {
+        220
     }
-    let steps = steps_of(transient, norms);
-    5 + steps.bits
 }
 
-// What norms are as words: the reply to writing them, and with 0 how many bits the 43 words have.
-#[derive(Drop)]
-struct Measured {
-    reply: u8,
-    bits: usize,
-}
-
-// 8 for an index over 39 or a first one over 31, then 9 for a difference outside -15 to 16, else 0 and the bits.
-fn measure(transient: bool, norms: [u8; 44]) -> Measured
-    ensures { (result.reply ≡ norm_reply transient norms) × (result.reply ≡ 0 → result.bits ≡ word_total transient norms) }
+// How many bits the 43 words of norms have; 8 for an index over 39 or a first one over 31, then 9 for a difference outside -15 to 16.
+#[tactic(auto, using(crate::proofs::Laws::Answers::by_tests))]
+fn measure(transient: bool, norms: [u8; 44]) -> Result<usize, Reply>
+    ensures { (reply_of result ≡ norm_reply transient norms) × IfOk result (λ bits. bits ≡ word_total transient norms) }
 {
-    if !ground::indices::in_range(&norms) {
-        return Measured {
-            reply: OUT_OF_RANGE,
-            bits: 0,
-        };
+    if !ground::indices::in_range(&norms) || 31 < norms[0] {
+        return Err(Reply::OutOfRange);
     }
-    if 31 < norms[0] {
-        return Measured {
-            reply: OUT_OF_RANGE,
-            bits: 0,
-        };
-    }
-    let steps = steps_of(transient, norms);
-    let far = steps.far;
+    let Steps { far, bits } = steps_of(transient, norms);
     if 15 < far {
-        return Measured {
-            reply: FAR_APART,
-            bits: 0,
-        };
+        return Err(Reply::FarApart);
     }
-    Measured {
-        reply: DONE,
-        bits: steps.bits,
-    }
+    Ok(bits)
 }
 
-// Whether norms can be written: 8 for an index over 39 or a first one over 31, then 9 for a difference outside -15 to 16, else 0.
-pub fn norm_reply(transient: bool, norms: [u8; 44]) -> u8
-    ensures { result ≡ norm_reply transient norms }
+// Whether norms can be written: 8 for an index over 39 or a first one over 31, then 9 for a difference outside -15 to 16.
+pub fn norm_reply(transient: bool, norms: [u8; 44]) -> Result<(), Reply>
+    ensures { reply_of result ≡ norm_reply transient norms }
 {
-    let m = measure(transient, norms);
-    m.reply
+    measure(transient, norms)?;
+    Ok(())
 }
 
 // FlagN: 1 exactly when the 43 words total under 215 bits.
-pub fn choose_flag_n(transient: bool, norms: [u8; 44]) -> Choice
-    ensures { result ≡ choice_of transient norms }
+#[tactic(auto, using(crate::proofs::Laws::Answers::choice_no, crate::proofs::Laws::Answers::choice_yes))]
+pub fn choose_flag_n(transient: bool, norms: [u8; 44]) -> Result<bool, Reply>
+    ensures { answered result ≡ choice_of transient norms }
 {
-    let m = measure(transient, norms);
-    let reply = m.reply;
-    if reply != DONE {
-        return Choice { reply, flag: false };
-    }
-    Choice {
-        reply: DONE,
-        flag: m.bits < 215,
-    }
+    let bits = measure(transient, norms)?;
+    Ok(bits < 215)
 }

@@ -9,15 +9,14 @@ ghost use Rattle.order.specs.SentOrder.{pick, sent, banded};
 mod tables;
 
 // The norms in another order: at each place the one that a lent table names.
+#[tactic(auto, using(ground::proofs::Laws::FillingLoops::filling))]
 fn reordered(at: &[usize; 44], norms: [u8; 44]) -> [u8; 44]
     requires { (length at.now ≡ 44) × ((k : ℕ) → k < 44 → get_or at.now k 0 < 44) }
     ensures { result ≡ table 44 (pick at.now norms) }
 {
     let mut out = [0u8; 44];
-    let mut i: usize = 0;
-    while i < 44 {
-        out[i] = norms[at[i]];
-        i += 1;
+    for (i, k) in at.iter().enumerate() {
+        out[i] = norms[*k];
     }
     out
 }
@@ -26,20 +25,20 @@ fn reordered(at: &[usize; 44], norms: [u8; 44]) -> [u8; 44]
 pub fn sent_order(transient: bool, norms: [u8; 44]) -> [u8; 44]
     ensures { result ≡ sent transient norms }
 {
-    if !transient {
-        return norms;
+    if transient {
+        reordered(&tables::ORDER, norms)
+    } else {
+        norms
     }
-    let bands = tables::ORDER;
-    reordered(&bands, norms)
 }
 
 // From sent order to band order.
 pub fn band_order(transient: bool, ss: [u8; 44]) -> [u8; 44]
     ensures { result ≡ banded transient ss }
 {
-    if !transient {
-        return ss;
+    if transient {
+        reordered(&tables::PLACES, ss)
+    } else {
+        ss
     }
-    let places = tables::PLACES;
-    reordered(&places, ss)
 }

@@ -1,6 +1,8 @@
 -- What the two point calls answer: reply 0 with the result, or reply 8 with zeros.
 -- Assumes nothing.
 use Rattle.std.specs.Prelude.{Bool, true, false, cond, ◌&&◌, List, ℕ, zero, suc, ◌^◌, ltb, leb, eqb, get_or, ℤ, pos, negsuc}
+use Rattle.std.specs.declared.option.Option.{Option}
+use Rattle.std.specs.declared.option.Option.TheVariants.{Some, None}
 use Rattle.ground.specs.ListsByRule.{table}
 use Rattle.ground.specs.Replies.{done, out_of_range}
 use Rattle.lattice.specs.Lattice.{point, back}
@@ -23,6 +25,11 @@ below r k = all_to (λ (i : ℕ). ltb (get_or k i 0) r)
 abbrev pub no_point : Point
 no_point = record { reply = out_of_range; at = table 8 (λ (i : ℕ). pos 0) }
 
+-- the answer to what was found
+abbrev pub answer_point : Option (List ℤ) → Point
+answer_point (Some v) = record { reply = done; at = v }
+answer_point None = no_point
+
 -- the point that index k names at this rate
 unfoldable pub point_of : ℕ → List ℕ → Point
 point_of rate k = cond (owns rate && below (2 ^ rate) k 8) (record { reply = done; at = point (2 ^ rate) k }) no_point
@@ -39,6 +46,10 @@ agree v w = all_to (λ (i : ℕ). eq_z (get_or v i (pos 0)) (get_or w i (pos 0))
 
 abbrev pub no_index : Index
 no_index = record { reply = out_of_range; at = table 8 (λ (i : ℕ). 0) }
+
+abbrev pub answer_index : Option (List ℕ) → Index
+answer_index (Some k) = record { reply = done; at = k }
+answer_index None = no_index
 
 -- the index to which the way back from v leads, if v is the point of that index
 unfoldable pub index_of : ℕ → List ℤ → Index

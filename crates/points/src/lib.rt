@@ -2,14 +2,16 @@
 
 #![tactic(auto)]
 
-ghost use Rattle.std.specs.Prelude.{◌≡◌, ℕ, suc, ◌+◌, ◌%◌, ◌<◌, ◌≤◌, ◌^◌, get_or, pos};
+ghost use Rattle.std.specs.Prelude.{◌≡◌, ℕ, suc, true, false, ◌+◌, ◌<◌, ◌≤◌, ◌^◌, get_or, pos, MatchOption};
 ghost use Rattle.ground.specs.Differences.{Is};
-ghost use Rattle.lattice.specs.Lattice.{sum_z, point, back_at, back};
-ghost use Rattle.points.specs.Answers.{owns, below, no_point, point_of, agree, no_index, index_of};
+ghost use Rattle.lattice.specs.Lattice.{sum_z, back_at, back};
+ghost use Rattle.points.specs.Answers.{owns, below, answer_point, point_of, agree, answer_index, index_of};
 
-use ground::numbers::{raise, u32_from_u16};
-use ground::replies::{DONE, OUT_OF_RANGE};
+use ground::numbers::raise;
+use ground::replies::{DONE, Reply};
+use lattice::Lattice;
 
+// C reads this struct: g719_lattice_point and g719_codebook_point hand it on.
 #[repr(C)]
 #[derive(Clone, Copy)]
 pub struct Point {
@@ -17,6 +19,22 @@ pub struct Point {
     pub at: [i16; 8],
 }
 
+impl From<Option<[i16; 8]>> for Point {
+    ghost from_gives = { λ found p. p ≡ answer_point found };
+
+    #[tactic(auto, unfolding(ground::specs::ListsByRule::from))]
+    fn from(found: Option<[i16; 8]>) -> Point {
+        match found {
+            Some(at) => Point { reply: DONE, at },
+            None => Point {
+                reply: Reply::OutOfRange.into(),
+                at: [0; 8],
+            },
+        }
+    }
+}
+
+// C reads this struct: g719_lattice_index hands it on.
 #[repr(C)]
 #[derive(Clone, Copy)]
 pub struct Index {
@@ -24,46 +42,44 @@ pub struct Index {
     pub at: [u16; 8],
 }
 
+impl From<Option<[u16; 8]>> for Index {
+    ghost from_gives = { λ found a. a ≡ answer_index found };
+
+    #[tactic(auto, unfolding(ground::specs::ListsByRule::from))]
+    fn from(found: Option<[u16; 8]>) -> Index {
+        match found {
+            Some(at) => Index { reply: DONE, at },
+            None => Index {
+                reply: Reply::OutOfRange.into(),
+                at: [0; 8],
+            },
+        }
+    }
+}
+
 // Whether each index is below r
 fn in_range(r: u32, k: &[u16; 8]) -> bool
     ensures { result ≡ below r k.now 8 }
 {
-    let mut all = true;
-    for i in 0usize..8 {
-        if r <= u32_from_u16(k[i]) {
-            all = false;
-        }
-    }
-    all
+    k.iter().all(|n| u32::from(*n) < r)
 }
 
-// Whether a rate is one of these calls' own
-fn owned(rate: u8) -> bool
-    ensures { result ≡ owns rate }
+// The lattice of a rate, if the rate is one of these calls' own
+fn owned(rate: u8) -> Option<Lattice>
+    ensures { MatchOption result (owns rate ≡ false) (λ lattice. (owns rate ≡ true) × (lattice.r ≡ 2 ^ rate)) }
 {
-    if rate < 2 {
-        return false;
-    }
-    rate <= 9
+    (2..=9).contains(&rate).then(|| Lattice::of(rate))
 }
 
-// A refused point call
-pub fn no_point() -> Point
-    ensures { result ≡ no_point }
+// The point that an index names, if the rate is owned and the index is in range
+fn point_named(rate: u8, index: &[u16; 8]) -> Option<[i16; 8]>
+    ensures { answer_point result ≡ point_of rate index.now }
 {
-    Point {
-        reply: OUT_OF_RANGE,
-        at: [0, 0, 0, 0, 0, 0, 0, 0],
-    }
-}
-
-// A refused index call
-fn no_index() -> Index
-    ensures { result ≡ no_index }
-{
-    Index {
-        reply: OUT_OF_RANGE,
-        at: [0, 0, 0, 0, 0, 0, 0, 0],
+    let lattice = owned(rate)?;
+    if in_range(lattice.r, index) {
+        Some(lattice.point_list(index))
+    } else {
+        None
     }
 }
 
@@ -71,55 +87,45 @@ fn no_index() -> Index
 pub fn lattice_point(rate: u8, index: &[u16; 8]) -> Point
     ensures { result ≡ point_of rate index.now }
 {
-    if !owned(rate) {
-        return no_point();
-    }
-    if in_range(lattice::power(rate), index) {
-        let v = lattice::point_list(rate, index);
-        return Point { reply: DONE, at: v };
-    }
-    no_point()
+    Point::from(point_named(rate, index))
 }
 
 // v2 + … + v8, each raised
 fn raised_rest(v: &[i16; 8]) -> u32
     ensures { Is (sum_z (λ (i : ℕ). get_or v.now (suc i) (pos 0)) 7) result 229376 × (result < 458752) }
 {
-    let mut sum: u32 = 0;
-    for i in 0usize..7 {
-        let z = v[i + 1];
-        sum += raise(z);
+    let mut sum = 0;
+    for z in &v[1..] {
+        sum += raise(*z);
     }
     sum
 }
 
 // (v1 − v2 − … − v8) / 2 modulo r: 32768 is a multiple of r, and raises the difference above 0 by a multiple of 2 r
-fn back_first(r: u32, v: &[i16; 8]) -> u32
-    requires { (4 ≤ r) × (r ≤ 512) × (32768 % r ≡ 0) }
-    ensures { (result ≡ back_at r v.now 0) × (result < 65536) }
+fn back_first(lattice: Lattice, v: &[i16; 8]) -> u32
+    ensures { (result ≡ back_at lattice.r v.now 0) × (result < 65536) }
 {
-    let z = v[0];
-    (raise(z) + 458752 - raised_rest(v)) / 2 % r
+    (raise(v[0]) + 458752 - raised_rest(v)) / 2 % lattice.r
 }
 
-// vi modulo r, at the other places
-fn back_other(r: u32, v: &[i16; 8], i: usize) -> u32
-    requires { (4 ≤ r) × (r ≤ 512) × (32768 % r ≡ 0) × (0 < i) × (i < 8) }
-    ensures { (result ≡ back_at r v.now i) × (result < 65536) }
+// The number at a place on the way back: vi modulo r, but at the first place
+fn back_at(lattice: Lattice, v: &[i16; 8], i: usize) -> u32
+    requires { i < 8 }
+    ensures { (result ≡ back_at lattice.r v.now i) × (result < 65536) }
 {
-    let z = v[i];
-    raise(z) % r
+    if i == 0 {
+        back_first(lattice, v)
+    } else {
+        raise(v[i]) % lattice.r
+    }
 }
 
-fn back_list(rate: u8, v: &[i16; 8]) -> [u16; 8]
-    requires { (2 ≤ rate) × (rate ≤ 9) }
-    ensures { result ≡ back (2 ^ rate) v.now }
+fn back_list(lattice: Lattice, v: &[i16; 8]) -> [u16; 8]
+    ensures { result ≡ back lattice.r v.now }
 {
-    let r = lattice::power(rate);
-    let mut k = [0u16; 8];
-    k[0] = back_first(r, v) as u16;
-    for i in 1usize..8 {
-        k[i] = back_other(r, v, i) as u16;
+    let mut k = [0; 8];
+    for (i, n) in k.iter_mut().enumerate() {
+        *n = back_at(lattice, v, i) as u16;
     }
     k
 }
@@ -128,28 +134,21 @@ fn back_list(rate: u8, v: &[i16; 8]) -> [u16; 8]
 pub fn same(v: &[i16; 8], w: &[i16; 8]) -> bool
     ensures { result ≡ agree v.now w.now 8 }
 {
-    let mut all = true;
-    for place in 0usize..8 {
-        let a = v[place];
-        let b = w[place];
-        if raise(a) != raise(b) {
-            all = false;
-        }
-    }
-    all
+    v == w
+}
+
+// The index that names a point, if the rate is owned and an index names it
+fn index_named(rate: u8, point: &[i16; 8]) -> Option<[u16; 8]>
+    ensures { answer_index result ≡ index_of rate point.now }
+{
+    let lattice = owned(rate)?;
+    let k = back_list(lattice, point);
+    same(&lattice.point_list(&k), point).then_some(k)
 }
 
 // The index that names a point: 0 and the index; 8 for a rate outside 2 to 9 or a point that no index of that rate names.
 pub fn lattice_index(rate: u8, point: &[i16; 8]) -> Index
     ensures { result ≡ index_of rate point.now }
 {
-    if !owned(rate) {
-        return no_index();
-    }
-    let k = back_list(rate, point);
-    let v = lattice::point_list(rate, &k);
-    if same(&v, point) {
-        return Index { reply: DONE, at: k };
-    }
-    no_index()
+    Index::from(index_named(rate, point))
 }

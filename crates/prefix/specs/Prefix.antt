@@ -1,12 +1,15 @@
 -- The prefix byte (A.4.1, Table A.1): its fields, what it says, and the byte of a mode. 01: F before L; R is written 0 and ignored in reading.
 -- Assumes nothing.
 use Rattle.std.specs.Prelude.{cond, List, ℕ, ◌+◌, ◌*◌, ◌/◌, ◌%◌, eqb, ltb, length, get_or}
-use Rattle.ground.specs.Replies.{done, no_byte, marked, reserved, out_of_range, no_data}
+use Rattle.std.specs.declared.result.Result.{Result}
+use Rattle.std.specs.declared.result.Result.TheVariants.{Ok, Err}
+use Rattle.ground.specs.Replies.{done, no_byte, marked, reserved, no_data}
+use Rattle.ground.specs.Numbered.{number}
+use Rattle.ground.specs.declared.replies.Reply.{Reply}
+use Rattle.ground.specs.declared.replies.Reply.TheVariants.{OutOfRange}
 use Rattle.prefix.specs.Sizes.{Size, no_body, not_given, sized, table_a2, length_bytes}
 use Rattle.prefix.specs.declared.Prefix.{Prefix}
 use Rattle.prefix.specs.declared.Prefix.TheVariants.{Data, NoData, NoByte, Marked, Reserved}
-use Rattle.prefix.specs.declared.Byte.{Byte}
-use Rattle.prefix.specs.declared.Byte.TheVariants.{Is, OutOfRange}
 
 -- ---- the fields, top bit first: F (1 bit), L (5), R (2)
 
@@ -48,16 +51,16 @@ reading_of Reserved = record { reply = reserved; field = 0; bytes = 0; next = 0 
 
 -- ---- writing
 
-unfoldable pub byte_of : ℕ → Byte
-byte_of m = cond (ltb m 20) (Is (byte_with 0 (m + 8) 0)) OutOfRange
+unfoldable pub byte_of : ℕ → Result ℕ Reply
+byte_of m = cond (ltb m 20) (Ok (byte_with 0 (m + 8) 0)) (Err OutOfRange)
 
 pub record PrefixWriting : Type 0 where
   pub reply : ℕ
   pub byte : ℕ
 
-abbrev pub writing_of : Byte → PrefixWriting
-writing_of (Is b) = record { reply = done; byte = b }
-writing_of OutOfRange = record { reply = out_of_range; byte = 0 }
+abbrev pub writing_of : Result ℕ Reply → PrefixWriting
+writing_of (Ok b) = record { reply = done; byte = b }
+writing_of (Err r) = record { reply = number r; byte = 0 }
 
 -- a byte with R = 0
 abbrev pub zero_r : ℕ → ℕ

@@ -1,10 +1,10 @@
 -- The sizes of a frame's body: Table 22 by mode, Table A.2 by the field L.
 -- Assumes nothing.
 use Rattle.std.specs.Prelude.{cond, List, [], ◌∷◌, ℕ, ◌+◌, ◌-◌, ◌*◌, eqb, ltb, leb, get_or}
-use Rattle.prefix.specs.declared.NamedField.{NamedField}
-use Rattle.prefix.specs.declared.NamedField.TheVariants as named-field
-use Rattle.prefix.specs.declared.NamedMode.{NamedMode}
-use Rattle.prefix.specs.declared.NamedMode.TheVariants as named-mode
+use Rattle.std.specs.declared.option.Option.{Option}
+use Rattle.std.specs.declared.option.Option.TheVariants.{Some, None}
+use Rattle.prefix.specs.declared.Mode.{Mode}
+use Rattle.prefix.specs.declared.Length.{Length}
 
 -- Table 22: frame size in bytes, by mode
 unfoldable pub table22 : List ℕ
@@ -39,13 +39,13 @@ unfoldable pub length_bytes : ℕ → ℕ
 length_bytes l = bytes_in (table_a2 l)
 
 -- mode = L − 8
-unfoldable pub length_of : ℕ → NamedField
-length_of m = cond (ltb m 20) (named-field.Is (record { 0 = m + 8 })) named-field.None
+unfoldable pub length_of : ℕ → Option Length
+length_of m = cond (ltb m 20) (Some (record { 0 = m + 8 })) None
 
-abbrev pub named : Size → ℕ → NamedMode
-named no_body l = named-mode.None
-named not_given l = named-mode.None
-named (sized n) l = named-mode.Is (record { 0 = l - 8 })
+abbrev pub named : Size → ℕ → Option Mode
+named no_body l = None
+named not_given l = None
+named (sized n) l = Some (record { 0 = l - 8 })
 
-unfoldable pub mode_of : ℕ → NamedMode
+unfoldable pub mode_of : ℕ → Option Mode
 mode_of l = named (table_a2 l) l

@@ -7,32 +7,18 @@ ghost use Rattle.std.specs.Prelude.{◌≡◌};
 ghost use Rattle.prefix.specs.Sizes.{mode_bytes, length_bytes, length_of, mode_of};
 ghost use Rattle.prefix.specs.Prefix.{prefix_of, byte_of};
 
-use ground::numbers::u16_from_u8;
+use ground::replies::Reply;
 
 // A mode, 0 to 19 in Table 22.
-#[derive(Clone, Copy)]
+#[derive(Clone, Copy, Debug, PartialEq, Eq)]
 pub struct Mode(pub u8);
 
 // The field L, 0 to 31 in Table A.2.
-#[derive(Clone, Copy)]
+#[derive(Clone, Copy, Debug, PartialEq, Eq)]
 pub struct Length(pub u8);
 
-// The field L of a mode: none for a number that is no mode.
-#[derive(Clone, Copy)]
-pub enum NamedField {
-    Is(Length),
-    None,
-}
-
-// The mode of a field L: none where L says no data or is reserved.
-#[derive(Clone, Copy)]
-pub enum NamedMode {
-    Is(Mode),
-    None,
-}
-
 // What a prefix byte says.
-#[derive(Clone, Copy)]
+#[derive(Clone, Copy, Debug, PartialEq, Eq)]
 pub enum Prefix {
     // A body of as many bytes as L says follows.
     Data(Length),
@@ -43,101 +29,79 @@ pub enum Prefix {
     Reserved,
 }
 
-// The prefix byte of a mode.
-#[derive(Clone, Copy)]
-pub enum Byte {
-    Is(u8),
-    OutOfRange,
-}
-
 impl Mode {
     // Body bytes by Table 22; 0 for a number that is no mode.
+    #[tactic(auto, using(crate::proofs::Laws::Sizes::by_mode))]
     pub fn bytes(self) -> u16
         ensures { result ≡ mode_bytes self.0 }
     {
-        let m = self.0;
-        if 19 < m {
-            return 0;
+        let m = u16::from(self.0);
+        match m {
+            0..=14 => 10 * m + 80,
+            15..=19 => 20 * m - 60,
+            _ => 0,
         }
-        if 14 < m {
-            return 20 * u16_from_u8(m) - 60;
-        }
-        10 * u16_from_u8(m) + 80
     }
 
-    // The field L that names the same size.
-    #[tactic(auto, using(crate::proofs::Laws::Sizes::length_mode, crate::proofs::Laws::Sizes::no_length))]
-    pub fn field(self) -> NamedField
+    // The field L that names the same size; none for a number that is no mode.
+    #[tactic(auto, using(crate::proofs::Laws::Sizes::by_mode))]
+    pub fn field(self) -> Option<Length>
         ensures { result ≡ length_of self.0 }
     {
-        let number = self.0;
-        if 19 < number {
-            return NamedField::None;
+        match self.0 {
+            m @ 0..=19 => Some(Length(m + 8)),
+            _ => None,
         }
-        NamedField::Is(Length(number + 8))
     }
 }
 
 impl Length {
     // Body bytes by Table A.2, those of its mode; 0 for no data and for a reserved L.
+    #[tactic(auto, using(crate::proofs::Laws::Sizes::by_length))]
     pub fn bytes(self) -> u16
         ensures { result ≡ length_bytes self.0 }
     {
-        let named = self.mode();
-        let NamedMode::Is(mode) = named else {
-            return 0;
-        };
-        mode.bytes()
+        match self.mode() {
+            Some(mode) => mode.bytes(),
+            None => 0,
+        }
     }
 
-    // The mode that names the same size.
-    pub fn mode(self) -> NamedMode
+    // The mode that names the same size; none where L says no data or is reserved.
+    #[tactic(auto, using(crate::proofs::Laws::Sizes::by_length))]
+    pub fn mode(self) -> Option<Mode>
         ensures { result ≡ mode_of self.0 }
     {
-        let l = self.0;
-        if l < 8 {
-            return NamedMode::None;
+        match self.0 {
+            l @ 8..=27 => Some(Mode(l - 8)),
+            _ => None,
         }
-        if 27 < l {
-            return NamedMode::None;
-        }
-        NamedMode::Is(Mode(l - 8))
     }
 }
 
 // What the first byte of a slice says as a prefix: F before L, and R ignored.
-#[tactic(auto, using(crate::proofs::Laws::Prefix::read_none, crate::proofs::Laws::Prefix::read_marked, crate::proofs::Laws::Prefix::read_no_data, crate::proofs::Laws::Prefix::read_low, crate::proofs::Laws::Prefix::read_high, crate::proofs::Laws::Prefix::read_data))]
+#[tactic(auto, using(crate::proofs::Laws::Prefix::by_byte))]
 pub fn read_prefix(s: &[u8]) -> Prefix
     ensures { result ≡ prefix_of s.now }
 {
-    if s.len() == 0 {
+    let Some(&b) = s.first() else {
         return Prefix::NoByte;
-    }
-    let b = s[0];
+    };
     if 128 <= b {
         return Prefix::Marked;
     }
-    let field = b / 4;
-    if field == 0 {
-        return Prefix::NoData;
+    match b / 4 {
+        0 => Prefix::NoData,
+        l @ 8..=27 => Prefix::Data(Length(l)),
+        _ => Prefix::Reserved,
     }
-    if field < 8 {
-        return Prefix::Reserved;
-    }
-    if 27 < field {
-        return Prefix::Reserved;
-    }
-    Prefix::Data(Length(field))
 }
 
-// The prefix byte of a mode: F and R are 0.
-pub fn write_prefix(mode: Mode) -> Byte
+// The prefix byte of a mode: F and R are 0. A number that is no mode has none.
+#[tactic(auto, using(crate::proofs::Laws::Sizes::field_most, crate::proofs::Laws::Prefix::byte_some, crate::proofs::Laws::Prefix::byte_err))]
+pub fn write_prefix(mode: Mode) -> Result<u8, Reply>
     ensures { result ≡ byte_of mode.0 }
 {
-    let named = mode.field();
-    let NamedField::Is(field) = named else {
-        return Byte::OutOfRange;
-    };
-    let l = field.0;
-    Byte::Is(l * 4)
+    let Length(l) = mode.field().ok_or(Reply::OutOfRange)?;
+    Ok(4 * l)
 }

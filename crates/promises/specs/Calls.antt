@@ -4,7 +4,7 @@
 use Rattle.std.specs.Prelude.{Bool, List, ℕ, ℤ, length}
 use Rattle.prefix.specs.Prefix as prefix
 use Rattle.norms.specs.Answers.{choice_of as flag_n}
-use Rattle.norms.specs.declared.Choice.{Choice}
+use Rattle.norms.specs.Answers.{Choice}
 use Rattle.legal.specs.Answers.{legalised}
 use Rattle.legal.specs.declared.Legal.{Legal}
 use Rattle.weights.specs.Weights.{weighed}
@@ -35,7 +35,7 @@ use Rattle.block_reader.specs.declared.Block.{Block}
 use Rattle.block_writer.specs.Writing as block_written
 use Rattle.block_writer.specs.declared.Records.{Records}
 use Rattle.listing.specs.Listing as listing
-use Rattle.listing.specs.declared.Listing.{Listing}
+use Rattle.listing.specs.Listing.{Listing}
 
 -- after a call that may write into one lent slice: its answer, and the slice
 pub record Wrote (A : Type 0) : Type 0 where

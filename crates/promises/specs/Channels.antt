@@ -3,21 +3,20 @@
 -- frame_at s i is stored frame i of s (frames/specs/Places); recording_at src lengths c is recording c of those that lie one behind the other in src
 -- (joining/specs/Joining), and start_of lengths c the place where it begins.
 -- Assumes nothing.
-use Rattle.std.specs.Prelude.{◌≡◌, false, List, ◌++◌, map, ℕ, ◌-◌, ◌*◌, ◌≤◌, ◌<◌, eqb, length, take, drop, replicate}
+use Rattle.std.specs.Prelude.{◌≡◌, false, List, ◌++◌, map, ℕ, ◌-◌, ◌*◌, ◌≤◌, ◌<◌, length, take, drop, replicate}
 use Rattle.ground.specs.ListsByRule.{table}
-use Rattle.ground.specs.Replies.{done, cut, not_as_booked, no_data, too_many}
+use Rattle.ground.specs.Replies.{done, cut, not_as_booked, too_many}
 use Rattle.ground.specs.Runs.{runs, part}
 use Rattle.ground.specs.Sums.{nth}
 use Rattle.bits.specs.Bits.{Bytes}
 use Rattle.frame.specs.Answers.{stopped_at}
-use Rattle.frame.specs.declared.Reading.{Reading}
 use Rattle.recording.specs.Walk.{most_frames}
 use Rattle.recording.specs.Frames.{Frames}
 use Rattle.recording.specs.Blocks.{Blocks}
 use Rattle.frames.specs.Places.{frame_at, zeroed}
 use Rattle.block_reader.specs.declared.Block.{Block}
 use Rattle.block_writer.specs.Writing.{record_at, empty_at}
-use Rattle.block_writer.specs.ReadBack.{reading_back, codes_back, tails_back}
+use Rattle.block_writer.specs.ReadBack.{given_again, reading_back, codes_back, tails_back}
 use Rattle.block_writer.specs.declared.Records.{Records}
 use Rattle.channels.specs.Copies.{extracted, made_copy}
 use Rattle.joining.specs.Joining.{start_of, recording_at, joined_of, Joinable}
@@ -52,9 +51,9 @@ pub record Joins : Type 0 where
 
 -- ---- "Demand 2 holds per frame"
 
--- the records of a block that was read, and which of its frames are empty: those that say 14
+-- the records of a block that was read: none for an empty frame, one that says 14
 abbrev pub handed_on : Block → Records
-handed_on b = record { at = map (λ (r : Reading). r.«record») b.frames; empty = map (λ (r : Reading). eqb r.reply no_data) b.frames }
+handed_on b = record { at = map given_again b.frames }
 
 pub record BlockTrips : Type 0 where
   -- a block that was read and is written returns, with R zero in the prefix byte of each frame …

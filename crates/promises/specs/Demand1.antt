@@ -6,6 +6,8 @@ use Rattle.std.specs.Prelude.{◌≡◌, Bool, false, cond, List, [], ◌∷◌,
 use Rattle.ground.specs.Refusals.{OneOf}
 use Rattle.ground.specs.Replies.{done, no_data, wrong_channels}
 use Rattle.words.specs.Answers.{word_at, number_of}
+use Rattle.std.specs.Prelude.{Result}
+use Rattle.bits.specs.declared.Refusal.{Refusal}
 use Rattle.words.specs.declared.Word.{Word}
 use Rattle.runs.specs.Runs.{passed_up, run_reply}
 use Rattle.frame.specs.Answers.{no_record, stopped_at}
@@ -45,7 +47,7 @@ pub record Numbered : Type 0 where
       → OneOf (0 ∷ 7 ∷ 8 ∷ 9 ∷ 10 ∷ 12 ∷ 13 ∷ 17 ∷ []) (call.write_block records channels codes tails out).answer.reply
   -- "A decoded word is a number with its next place, or a refusal": 6 or 7, and a run of words passes that number up
   pub word : (s : List ℕ) (at end kind : ℕ) → OneOf (0 ∷ 6 ∷ 7 ∷ []) (number_of (word_at s at end kind))
-  pub run : (w : Word) → run_reply (passed_up w) ≡ number_of w
+  pub run : (w : Result Word Refusal) → run_reply (passed_up w) ≡ number_of w
 
 -- ---- "… a refused call leaves lent buffers exactly as they were": every reply but 0, 14 too
 

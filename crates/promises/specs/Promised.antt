@@ -1,7 +1,8 @@
 -- The contracts of the code, and that they leave nothing open (01, Nothing hollow). CALL.Post is what Rattle makes of the text of CALL's contract: the
 -- claim that its proof shows, of what the call is given, its result, and what is lent at exit.
 -- Assumes nothing.
-use Rattle.std.specs.Prelude.{◌≡◌, List, ℕ}
+use Rattle.std.specs.Prelude.{◌≡◌, Bool, List, ℕ, Result}
+use Rattle.ground.specs.declared.replies.Reply.{Reply}
 use Rattle.prefix.specs.Prefix.{prefix_of, byte_of}
 use Rattle.prefix.proofs.read_prefix.Reads as read_prefix
 use Rattle.prefix.proofs.write_prefix.Reads as write_prefix
@@ -25,6 +26,8 @@ use Rattle.joining.proofs.join.Reads as join
 use Rattle.block_reader.proofs.read_block.Reads as read_block
 use Rattle.block_writer.proofs.write_block.Reads as write_block
 use Rattle.listing.proofs.list.Reads as list
+use Rattle.listing.specs.Listing.{answer_of}
+use Rattle.norms.specs.Answers.{answered}
 use Rattle.promises.specs.Calls as call
 use Rattle.promises.specs.Calls.{Wrote, Read}
 
@@ -50,9 +53,9 @@ pub record Contracts : Type 0 where
   pub of_layout : (κs : _) (given : _) (r : _) (exit : _) → layout.Post κs given r exit
       → r ≡ call.layout given.0 given.1.0.now
   pub of_choose_flag_c : (κs : _) (given : _) (r : _) (exit : _) → choose_flag_c.Post κs given r exit
-      → r ≡ call.choose_flag_c given.0 given.1.0.now
+      → answered r ≡ call.choose_flag_c given.0 given.1.0.now
   pub of_choose_flag_n : (κs : _) (given : _) (r : _) (exit : _) → choose_flag_n.Post κs given r exit
-      → r ≡ call.choose_flag_n given.0 given.1.0
+      → answered r ≡ call.choose_flag_n given.0 given.1.0
   pub of_legalise : (κs : _) (given : _) (r : _) (exit : _) → legalise.Post κs given r exit
       → r ≡ call.legalise given.0 given.1.0
   pub of_weigh : (κs : _) (given : _) (r : _) (exit : _) → weigh.Post κs given r exit
@@ -70,7 +73,7 @@ pub record Contracts : Type 0 where
   pub of_check : (κs : _) (given : _) (r : _) (exit : _) → check.Post κs given r exit
       → r ≡ call.check given.0.now given.1.0
   pub of_list : (κs : _) (given : _) (r : _) (exit : _) → list.Post κs given r exit
-      → Writes r exit.1.0.now (call.list given.0.now given.1.0.now)
+      → Writes (answer_of r) exit.1.0.now (call.list given.0.now given.1.0.now)
   pub of_check_blocks : (κs : _) (given : _) (r : _) (exit : _) → check_blocks.Post κs given r exit
       → r ≡ call.check_blocks given.0.now given.1.0 given.1.1.0
   pub of_extract : (κs : _) (given : _) (r : _) (exit : _) → extract.Post κs given r exit
@@ -88,3 +91,6 @@ pub record Alike : Type 1 where
   pub answers : {A : Type 0} (c r s : A) → r ≡ c → s ≡ c → r ≡ s
   pub writes : {A : Type 0} (c : Wrote A) (r s : A) (o p : List ℕ) → Writes r o c → Writes s p c → (r ≡ s) × (o ≡ p)
   pub reads : {A : Type 0} (c : Read A) (r s : A) (k l t u : List ℕ) → Reads r k t c → Reads s l u c → (r ≡ s) × (k ≡ l) × (t ≡ u)
+  -- where the answer is told by a definition over the result, results of one answer are one result
+  pub choices : (r s : Result Bool Reply) → answered r ≡ answered s → r ≡ s
+  pub listings : (r s : Result ℕ Reply) → answer_of r ≡ answer_of s → r ≡ s

@@ -1,12 +1,11 @@
 -- Blocks of several channels (A.4.2; 02, No. 2): one stored frame of each channel, in order, for each 20 ms.
 -- Assumes nothing.
 use Rattle.std.specs.Prelude.{Bool, false, cond, List, ℕ, zero, suc, ◌+◌, eqb, ltb, drop}
-use Rattle.ground.specs.Replies.{done, no_byte, cut}
+use Rattle.ground.specs.Replies.{no_byte, cut}
 use Rattle.recording.specs.Walk.{Step, stops, passes, frame_step, walk_over, most_frames, check_over}
 use Rattle.recording.specs.Frames.{Frames}
 use Rattle.recording.specs.Units.{Units}
 use Rattle.recording.specs.declared.answer.Check.{Check}
-use Rattle.recording.specs.declared.answer.Passing.{Passing}
 
 -- 1 to 8 channels
 unfoldable pub is_count : ℕ → Bool
@@ -31,14 +30,6 @@ followed (passes k) rest = further k (in_block (rest k))
 unfoldable pub block_step : ℕ → List ℕ → Step
 block_step zero s = passes 0
 block_step (suc n) s = followed (frame_step s) (λ k. block_step n (drop k s))
-
-abbrev pub made_passing : ℕ → ℕ → Passing
-made_passing x n = record { reply = x; bytes = n }
-
--- as an answer: 0 with the bytes, or the number alone
-abbrev pub passing_of : Step → Passing
-passing_of (stops x) = made_passing x 0
-passing_of (passes n) = made_passing done n
 
 -- a recording of so many channels: its own check save 11
 abbrev pub walk_blocks : ℕ → List ℕ → Check

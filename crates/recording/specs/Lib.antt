@@ -3,4 +3,5 @@ pub mod Units
 pub mod Frames
 pub mod Blocks
 pub mod Checked
+pub mod Told
 pub mod Inner

@@ -4,12 +4,14 @@
 #![tactic(auto)]
 
 ghost use Rattle.std.specs.Prelude.{◌≡◌, ◌-◌, ◌≤◌, drop};
-ghost use Rattle.recording.specs.Walk.{next_step, most_frames, made_check, check_of};
-ghost use Rattle.recording.specs.Inner.{is_sound, reply_behind};
-ghost use Rattle.recording.specs.Blocks.{is_count, block_step, made_passing, passing_of, walk_blocks, check_blocks};
+ghost use Rattle.recording.specs.Walk.{frame_step, next_step, most_frames, check_of};
+ghost use Rattle.ground.specs.Numbered.{number};
+ghost use Rattle.recording.specs.Told.{told, told_step};
+ghost use Rattle.recording.specs.Inner.{reply_behind};
+ghost use Rattle.recording.specs.Blocks.{is_count, block_step, walk_blocks, check_blocks};
 
-use answer::{Check, Passing};
-use ground::replies::{CUT, DONE, NO_BYTE, NO_DATA, NOT_AS_BOOKED, TOO_MANY};
+use answer::Check;
+use ground::replies::{DONE, Reply};
 
 pub mod answer;
 
@@ -21,98 +23,90 @@ const MOST_UNITS: u32 = 3000;
 pub fn is_count(channels: usize) -> bool
     ensures { result ≡ is_count channels }
 {
-    if channels == 0 {
-        return false;
-    }
-    channels < 9
+    (1..=8).contains(&channels)
 }
 
-fn made_check(reply: u8, count: u32, place: usize) -> Check
-    ensures { result ≡ made_check reply count place }
+// Passes the frame at the start of a slice, which is read in full: its bytes where it is sound, with 0 or with 14 for no data, else why it is not.
+// The reply is a number here, as `read_record` answers it.
+#[tactic(auto, using(crate::proofs::Laws::Reads::reading_stops))]
+fn pass_frame(src: &[u8]) -> Result<usize, Reply>
+    ensures { told result ≡ frame_step src.now }
 {
-    Check {
-        reply,
-        count,
-        place,
+    let one = frame::read_record(src);
+    match one.reply {
+        1 => Err(Reply::NoByte),
+        2 => Err(Reply::Marked),
+        3 => Err(Reply::Reserved),
+        4 => Err(Reply::Cut),
+        5 => Err(Reply::NormOutside),
+        6 => Err(Reply::NoWord),
+        7 => Err(Reply::PastBudget),
+        _ => Ok(one.next),
     }
 }
 
-// Whether a frame with this reply counts as sound: 0, and 14 for no data.
-#[tactic(auto, unfolding(crate::specs::Inner::is_sound))]
-fn is_sound(reply: u8) -> bool
-    ensures { result ≡ is_sound reply }
+// The reply of a frame behind so many others of its block: a missing one is cut off.
+fn reply_behind(frames: usize, reply: Reply) -> Reply
+    ensures { number result ≡ reply_behind frames (number reply) }
 {
-    if reply == NO_DATA {
-        return true;
+    if 0 < frames && reply == Reply::NoByte {
+        Reply::Cut
+    } else {
+        reply
     }
-    reply == DONE
-}
-
-// The number of a frame behind so many others of its block: a missing one is cut off.
-fn reply_behind(frames: usize, reply: u8) -> u8
-    ensures { result ≡ reply_behind frames reply }
-{
-    if frames == 0 {
-        return reply;
-    }
-    if reply == NO_BYTE {
-        return CUT;
-    }
-    reply
-}
-
-fn made_passing(reply: u8, bytes: usize) -> Passing
-    ensures { result ≡ made_passing reply bytes }
-{
-    Passing { reply, bytes }
 }
 
 // Passes the block at the start of a slice: each of its frames is read in full, and the first that is not sound stops it.
-pub fn pass_block(src: &[u8], channels: usize) -> Passing
-    ensures { result ≡ passing_of (block_step channels src.now) }
+pub fn pass_block(src: &[u8], channels: usize) -> Result<usize, Reply>
+    ensures { told result ≡ block_step channels src.now }
 {
-    let mut at: usize = 0;
-    let mut c: usize = 0;
-    while c < channels {
-        let one = frame::read_record(&src[at..]);
-        let reply = one.reply;
-        if !is_sound(reply) {
-            return made_passing(reply_behind(c, reply), 0);
+    let mut at = 0;
+    for c in 0..channels {
+        match pass_frame(&src[at..]) {
+            Ok(bytes) => at += bytes,
+            Err(reply) => return Err(reply_behind(c, reply)),
         }
-        at += one.next;
-        c += 1;
     }
-    made_passing(DONE, at)
+    Ok(at)
 }
 
-// One step of the walk: what stands at a place behind so many sound units. The end is 0 and no bytes; a byte behind 3,000 units is 15, unread.
+// One step of the walk: what stands at a place behind so many sound units, none at the end. A byte behind 3,000 units is 15, unread.
 #[tactic(auto, using(crate::proofs::Laws::Walked::step_end, crate::proofs::Laws::Walked::step_full, crate::proofs::Laws::Walked::step_unit))]
-pub fn step(src: &[u8], at: usize, count: u32, channels: usize) -> Passing
-    ensures { result ≡ passing_of (next_step (block_step channels) (most_frames - count) (drop at src.now)) }
+pub fn step(src: &[u8], at: usize, count: u32, channels: usize) -> Result<Option<usize>, Reply>
+    ensures { told_step result ≡ next_step (block_step channels) (most_frames - count) (drop at src.now) }
 {
     if src.len() <= at {
-        return made_passing(DONE, 0);
+        return Ok(None);
     }
     if MOST_UNITS <= count {
-        return made_passing(TOO_MANY, 0);
+        return Err(Reply::TooMany);
     }
-    pass_block(&src[at..], channels)
+    let bytes = pass_block(&src[at..], channels)?;
+    Ok(Some(bytes))
 }
 
-// Walks over a recording of several channels, step by step, until one has no bytes: its number, the sound blocks in front of it and its place.
+// Walks over a recording of several channels, step by step, to the end or a stop: its number, the sound blocks in front of it and its place.
 pub fn walk_blocks(src: &[u8], channels: usize) -> Check
     requires { 1 ≤ channels }
     ensures { result ≡ walk_blocks channels src.now }
 {
-    let mut at: usize = 0;
-    let mut count: u32 = 0;
-    loop {
-        let one = step(src, at, count, channels);
-        if one.bytes == 0 {
-            return made_check(one.reply, count, at);
+    let mut at = 0;
+    let mut count = 0;
+    // A step decides where the walk ends, so no range counts the blocks.
+    let reply = loop {
+        match step(src, at, count, channels) {
+            Ok(Some(bytes)) => {
+                at += bytes;
+                count += 1;
+            }
+            Ok(None) => break DONE,
+            Err(reply) => break reply.into(),
         }
-        at += one.bytes;
-        count += 1;
+    };
+    Check {
+        reply,
+        count,
+        place: at,
     }
 }
 
@@ -123,12 +117,11 @@ pub fn check_blocks(src: &[u8], channels: usize, booking: u32) -> Check
     ensures { result ≡ check_blocks channels src.now booking }
 {
     let found = walk_blocks(src, channels);
-    let reply = found.reply;
-    let count = found.count;
-    if reply == DONE {
-        if count != booking {
-            return made_check(NOT_AS_BOOKED, count, found.place);
-        }
+    if found.reply == DONE && found.count != booking {
+        return Check {
+            reply: Reply::NotAsBooked.into(),
+            ..found
+        };
     }
     found
 }

@@ -11,24 +11,16 @@ ghost use Rattle.contest.specs.Rounds.{rounds_by_rates};
 fn of_band(competes: bool, rate: u8) -> u16
     ensures { (result ≡ rate + cond (competes && ltb rate 9) 1 0) × (result ≤ 256) }
 {
-    let steps = rate as u16;
-    if competes {
-        if rate < 9 {
-            return steps + 1;
-        }
-    }
-    steps
+    u16::from(rate) + u16::from(competes && rate < 9)
 }
 
 // The sum of all rates, and the number of competing bands below rate 9.
 pub fn by_rates(wide: bool, rates: &[u8; 44]) -> u16
     ensures { result ≡ rounds_by_rates (competing wide) (nth rates.now) }
 {
-    let mut sum: u16 = 0;
-    let mut i = 0;
-    while i < 44 {
-        sum += of_band(levels::competes(wide, i), rates[i]);
-        i += 1;
+    let mut sum = 0;
+    for (p, rate) in rates.iter().enumerate() {
+        sum += of_band(levels::competes(wide, p), *rate);
     }
     sum
 }

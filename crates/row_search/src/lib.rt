@@ -2,128 +2,88 @@
 
 #![tactic(auto)]
 
-ghost use Rattle.std.specs.Prelude.{◌≡◌, ℕ, ◌<◌, ◌≤◌};
-ghost use Rattle.codebook.specs.Codebook.{row, no_row, row_index};
-ghost use Rattle.codebook.specs.Packed.{weight, code, entry, sign_class, Found};
-ghost use Rattle.codebook.specs.Rows.{twos, signs};
+ghost use Rattle.std.specs.Prelude.{◌≡◌, ℕ, ◌+◌, ◌<◌, ◌≤◌};
+ghost use Rattle.std.specs.declared.option.Option.TheVariants.{Some};
+ghost use Rattle.codebook.specs.Codebook.{row, row_index, answer_row};
+ghost use Rattle.codebook.specs.Packed.{weight, code, sign_class, Found};
 
 use codebook::Row;
-use codebook::tables::{SIGNS, TWOS};
-use ground::numbers::raise;
-use ground::replies::{DONE, OUT_OF_RANGE};
-
-// The rows from one on and below another
-#[derive(Drop)]
-struct Span {
-    from: usize,
-    to: usize,
-}
+use codebook::tables::Tables;
+use std::cmp::Ordering;
 
 // What a number adds to a code, times 2 to its place
 fn weight_of(z: i16) -> u32
     ensures { (result ≡ weight z) × (result ≤ 256) }
 {
-    let u = raise(z);
-    if 32768 < u {
-        return 256;
+    match z.cmp(&0) {
+        Ordering::Greater => 256,
+        Ordering::Less => 1,
+        Ordering::Equal => 0,
     }
-    if u < 32768 {
-        return 1;
-    }
-    0
 }
 
 // The code of a vector
 fn code_of(v: &[i16; 8]) -> u32
     ensures { (result ≡ code v.now) × (result < 65536) }
 {
-    let mut c: u32 = 0;
-    for i in 0usize..8 {
-        let z = v[i];
-        c += weight_of(z) << i;
+    let mut c = 0;
+    for (i, z) in v.iter().enumerate() {
+        c += weight_of(*z) << i;
     }
     c
 }
 
-// The class of a byte of signs, told by how many ones it has
-fn sign_class(n: u32) -> Span
-    ensures { (result.from ≡ (sign_class n).from) × (result.to ≡ (sign_class n).to) × (result.from ≤ result.to) × (result.to ≤ 256) }
+// The first and the last row of the class of a byte of signs, told by how many ones it has
+#[tactic(auto, unfolding(codebook::specs::Packed::sign_class))]
+fn sign_class(n: u32) -> (u8, u8)
+    ensures { (result.0 ≡ (sign_class n).from) × (result.1 + 1 ≡ (sign_class n).to) × (result.0 ≤ result.1) }
 {
-    if n == 2 {
-        return Span { from: 128, to: 156 };
+    match n {
+        2 => (128, 155),
+        4 => (156, 225),
+        6 => (226, 253),
+        8 => (254, 254),
+        _ => (255, 255),
     }
-    if n == 4 {
-        return Span { from: 156, to: 226 };
-    }
-    if n == 6 {
-        return Span { from: 226, to: 254 };
-    }
-    if n == 8 {
-        return Span { from: 254, to: 255 };
-    }
-    Span { from: 255, to: 256 }
 }
 
-// The first row with this code, from one on and below another
-fn find_code(low: &[u16; 128], high: &[u8; 128], x: u32, from: usize, to: usize) -> usize
-    requires { (low.now ≡ twos) × (high.now ≡ signs) × (from ≤ to) × (to ≤ 256) }
-    ensures { Found x from to result }
+// The first row with this code, from one on and up to another
+fn find_code(tables: &Tables, x: u32, first: u8, last: u8) -> Option<u8>
+    requires { first ≤ last }
+    ensures { Found x first (last + 1) result }
 {
-    let mut i = from;
-    while i < to {
-        if codebook::code_in(low, high, i) == x {
-            return i;
-        }
-        i += 1;
-    }
-    i
+    (first..=last).find(|n| tables.code(*n) == x)
 }
 
-// The one row that can have this code, or 256
-fn seek_row(x: u32) -> usize
-    requires { x < 65536 }
-    ensures { (result ≤ 256) × ((j : ℕ) → j < 256 → code (row j) ≡ x → j ≡ result) }
+// The one row that can have this code
+fn seek_row(x: u32) -> Option<u8>
+    ensures { (j : ℕ) → j < 256 → code (row j) ≡ x → result ≡ Some j }
 {
-    let low = TWOS;
-    let high = SIGNS;
+    let tables = Tables::packed();
     let byte = x % 256;
     if x / 256 + byte == 255 {
-        let s = sign_class(u32::count_ones(byte));
-        let from = s.from;
-        let to = s.to;
-        return find_code(&low, &high, x, from, to);
+        let (first, last) = sign_class(byte.count_ones());
+        find_code(&tables, x, first, last)
+    } else {
+        find_code(&tables, x, 0, 127)
     }
-    find_code(&low, &high, x, 0, 128)
 }
 
-// A refused index call
-fn no_row() -> Row
-    ensures { result ≡ no_row }
+// The row that is a point, if the rate is 1 and one is
+#[tactic(auto, using(crate::proofs::Laws::Seek::row_foreign))]
+fn row_named(rate: u8, point: &[i16; 8]) -> Option<u8>
+    ensures { answer_row result ≡ row_index rate point.now }
 {
-    Row {
-        reply: OUT_OF_RANGE,
-        index: 0,
+    if rate != 1 {
+        return None;
     }
+    let n = seek_row(code_of(point))?;
+    points::same(&codebook::row_list(n), point).then_some(n)
 }
 
 // The index that names a point: 0 and its number; 8 for a rate that is not 1 or a vector that is no row.
-#[tactic(auto, using(crate::proofs::Laws::Seek::row_foreign, crate::proofs::Laws::Seek::row_past, crate::proofs::Laws::Seek::row_made, crate::proofs::Laws::Seek::row_other))]
 pub fn codebook_index(rate: u8, point: &[i16; 8]) -> Row
     ensures { result ≡ row_index rate point.now }
 {
-    if rate != 1 {
-        return no_row();
-    }
-    let found = seek_row(code_of(point));
-    if 256 <= found {
-        return no_row();
-    }
-    let w = codebook::row_list(found);
-    if points::same(&w, point) {
-        return Row {
-            reply: DONE,
-            index: found as u8,
-        };
-    }
-    no_row()
+    Row::from(row_named(rate, point))
 }

@@ -2,46 +2,47 @@
 
 #![tactic(auto)]
 
-ghost use Rattle.std.specs.Prelude.{◌<◌, ◌≤◌, length};
+ghost use Rattle.std.specs.Prelude.{◌≤◌, length};
 
 use block_reader::Block;
 use block_writer::Records;
 use channels::Copied;
 use frame::{Reading, Record};
-use ground::numbers::u16_from_u8;
 use run_lines::checksums::mixed;
-use run_lines::lists::{fill_bytes, fill_numbers};
-use run_lines::numbers::{least, low, of_flag};
-use run_lines::records::record_at;
-use run_lines::{checksums, lines, show};
+use run_lines::lists::Line;
+use run_lines::numbers::low;
+use run_lines::{checksums, show};
 
 // A checksum of a record: its norms, then mode, flags, noise and tail's bit count.
 fn check_record(r: Record) -> u64 {
     let norms = r.norms;
-    let a = mixed(checksums::of_bytes(&norms), u16_from_u8(r.mode));
-    let b = mixed(a, of_flag(r.transient));
-    let c = mixed(b, of_flag(r.flag_l));
-    let d = mixed(c, of_flag(r.flag_n));
-    let e = mixed(d, of_flag(r.flag_c));
-    mixed(mixed(e, u16_from_u8(r.noise)), r.tail_bits)
+    [
+        u16::from(r.mode),
+        u16::from(r.transient),
+        u16::from(r.flag_l),
+        u16::from(r.flag_n),
+        u16::from(r.flag_c),
+        u16::from(r.noise),
+        r.tail_bits,
+    ]
+    .iter()
+    .fold(
+        checksums::of_bytes(&norms),
+        |sum, number| mixed(sum, *number),
+    )
 }
 
 fn show_reading(r: Reading) {
-    show::number(r.reply as u64);
+    show::number(u64::from(r.reply));
     show::number(r.next as u64);
     show::number(check_record(r.record));
 }
 
 fn show_block(b: Block) {
     show::answer(b"r", b.reply, b.next);
-    show_reading(b.frames[0]);
-    show_reading(b.frames[1]);
-    show_reading(b.frames[2]);
-    show_reading(b.frames[3]);
-    show_reading(b.frames[4]);
-    show_reading(b.frames[5]);
-    show_reading(b.frames[6]);
-    show_reading(b.frames[7]);
+    for frame in b.frames.iter() {
+        show_reading(*frame);
+    }
 }
 
 // Reads a block into the first so many of the lent numbers and bytes.
@@ -53,9 +54,9 @@ fn read_into(
     m: usize,
     tails: &mut [u8],
 ) -> Block {
-    let k = least(n, codes.len());
-    let j = least(m, tails.len());
-    block_reader::read_block(src, channel_count, &mut codes[0..k], &mut tails[0..j])
+    let k = n.min(codes.len());
+    let j = m.min(tails.len());
+    block_reader::read_block(src, channel_count, &mut codes[..k], &mut tails[..j])
 }
 
 // A line of r: channels, how many numbers and how many bytes are lent; the source. Written: reply and next place; of each of the eight frames its reply, its
@@ -67,9 +68,9 @@ fn read_and_show(head: [u16; 10], src: &[u8]) {
     show_block(read_into(
         src,
         low(head[0]),
-        head[1] as usize,
+        usize::from(head[1]),
         &mut codes,
-        head[2] as usize,
+        usize::from(head[2]),
         &mut tails,
     ));
     show::number(checksums::of_numbers(&codes));
@@ -79,10 +80,10 @@ fn read_and_show(head: [u16; 10], src: &[u8]) {
 
 // A line of b: channels and booking; the source. Written: reply, count, place.
 fn check_and_show(head: [u16; 10], src: &[u8]) {
-    let c = channels::check_blocks(src, low(head[0]), head[1] as u32);
+    let c = channels::check_blocks(src, low(head[0]), u32::from(head[1]));
     show::text(b"b");
-    show::number(c.reply as u64);
-    show::number(c.count as u64);
+    show::number(u64::from(c.reply));
+    show::number(u64::from(c.count));
     show::number(c.place as u64);
     show::line_end();
 }
@@ -90,9 +91,9 @@ fn check_and_show(head: [u16; 10], src: &[u8]) {
 // Reply, which, count, place, length, and what stands in the whole lent output after the call.
 fn show_copied(name: &[u8], c: Copied, out: &[u8]) {
     show::text(name);
-    show::number(c.reply as u64);
-    show::number(c.which as u64);
-    show::number(c.count as u64);
+    show::number(u64::from(c.reply));
+    show::number(u64::from(c.which));
+    show::number(u64::from(c.count));
     show::number(c.place as u64);
     show::number(c.length as u64);
     show::output(out);
@@ -105,27 +106,12 @@ fn extract_and_show(head: [u16; 10], src: &[u8], out: &mut [u8]) {
     show_copied(b"x", c, out);
 }
 
-fn lengths_of(xs: [u16; 10]) -> [u32; 10] {
-    [
-        xs[0] as u32,
-        xs[1] as u32,
-        xs[2] as u32,
-        xs[3] as u32,
-        xs[4] as u32,
-        xs[5] as u32,
-        xs[6] as u32,
-        xs[7] as u32,
-        xs[8] as u32,
-        xs[9] as u32,
-    ]
-}
-
 // A line of j: the lengths, so many; the source, the lent output.
 fn join_and_show(head: [u16; 10], count: usize, src: &[u8], out: &mut [u8])
     requires { count ≤ 10 }
 {
-    let lengths = lengths_of(head);
-    let c = joining::join(src, &lengths[0..count], out);
+    let lengths = head.map(u32::from);
+    let c = joining::join(src, &lengths[..count], out);
     show_copied(b"j", c, out);
 }
 
@@ -146,29 +132,17 @@ fn run_call(call: u8, s: &[u8]) {
     let mut head = [0u16; 10];
     let mut src = [0u8; 6016];
     let mut out = [0u8; 6016];
-    let a = fill_numbers(s, 0, &mut head);
-    let b = fill_bytes(s, a.next, &mut src);
-    let c = fill_bytes(s, b.next, &mut out);
-    let i = a.count;
-    let j = b.count;
-    let k = c.count;
-    call_and_show(call, head, i, &src[0..j], &mut out[0..k]);
+    let mut line = Line { rest: s };
+    let i = line.fill_numbers(&mut head);
+    let j = line.fill_bytes(&mut src);
+    let k = line.fill_bytes(&mut out);
+    call_and_show(call, head, i, &src[..j], &mut out[..k]);
 }
 
 fn records_of(one: Record, other: Record, empty: [u8; 8]) -> Records {
-    Records {
-        at: [one, other, other, other, other, other, other, other],
-        empty: [
-            empty[0] == 1,
-            empty[1] == 1,
-            empty[2] == 1,
-            empty[3] == 1,
-            empty[4] == 1,
-            empty[5] == 1,
-            empty[6] == 1,
-            empty[7] == 1,
-        ],
-    }
+    let mut at = empty.map(|flag| (flag != 1).then_some(other));
+    at[0] = at[0].and(Some(one));
+    Records { at }
 }
 
 fn write_and_show(records: Records, n: u8, codes: &[u16], tails: &[u8], out: &mut [u8]) {
@@ -178,20 +152,15 @@ fn write_and_show(records: Records, n: u8, codes: &[u16], tails: &[u8], out: &mu
     show::line_end();
 }
 
-// The lent codes, the lent tails, the lent output, from their place on. Written: reply, next place, and what stands in the whole lent output after the call.
-fn run_records(s: &[u8], at: usize, records: Records, n: u8)
-    requires { at ≤ length s.now }
-{
+// The lent codes, the lent tails, the lent output, which come next. Written: reply, next place, and what stands in the whole lent output after the call.
+fn run_records(mut line: Line, records: Records, n: u8) {
     let mut codes = [0u16; 6424];
     let mut tails = [0u8; 2584];
     let mut out = [0u8; 2600];
-    let a = fill_numbers(s, at, &mut codes);
-    let b = fill_bytes(s, a.next, &mut tails);
-    let c = fill_bytes(s, b.next, &mut out);
-    let i = a.count;
-    let j = b.count;
-    let k = c.count;
-    write_and_show(records, n, &codes[0..i], &tails[0..j], &mut out[0..k]);
+    let i = line.fill_numbers(&mut codes);
+    let j = line.fill_bytes(&mut tails);
+    let k = line.fill_bytes(&mut out);
+    write_and_show(records, n, &codes[..i], &tails[..j], &mut out[..k]);
 }
 
 // A line of w: channels; for each of the eight 1 if its frame is empty; seven numbers and norms of the first channel's record; the same of all
@@ -199,35 +168,27 @@ fn run_records(s: &[u8], at: usize, records: Records, n: u8)
 fn run_write(s: &[u8]) {
     let mut head = [0u16; 1];
     let mut empty = [0u8; 8];
-    let a = fill_numbers(s, 0, &mut head);
-    let b = fill_bytes(s, a.next, &mut empty);
-    let one = record_at(s, b.next);
-    let other = record_at(s, one.next);
-    run_records(
-        s,
-        other.next,
-        records_of(one.record, other.record, empty),
-        low(head[0]),
-    );
+    let mut line = Line { rest: s };
+    line.fill_numbers(&mut head);
+    line.fill_bytes(&mut empty);
+    let one = line.record();
+    let other = line.record();
+    run_records(line, records_of(one, other, empty), low(head[0]));
 }
 
 // A line is a letter and lists. A line of # is a heading, written as it stands; of another letter an empty line is written.
-fn run_line(line: &[u8])
-    requires { 0 < length line.now }
-{
-    match line[0] {
-        b'#' => show::text(line),
-        b'w' => run_write(&line[1..]),
-        _ => run_call(line[0], &line[1..]),
+fn run_line(line: &[u8]) {
+    match line {
+        [] => {}
+        [b'#', ..] => show::text(line),
+        [b'w', lists @ ..] => run_write(lists),
+        [call, lists @ ..] => run_call(*call, lists),
     }
 }
 
 fn run(s: &[u8]) {
-    let mut at = 0;
-    while at < s.len() {
-        let end = lines::after(s, at);
-        run_line(&s[at..end]);
-        at = end;
+    for line in s.split_inclusive(|byte| *byte == b'\n') {
+        run_line(line);
     }
 }
 

@@ -6,41 +6,36 @@ ghost use Rattle.std.specs.Prelude.{◌+◌, ◌*◌, ◌≤◌, length};
 
 use frame::Reading;
 use run_lines::hexadecimal::{byte, word};
-use run_lines::numbers::least;
 use run_lines::{checksums, show};
 
-// As many bytes of a source as 400 hold.
-fn source(s: &[u8], at: usize, n: usize) -> [u8; 400]
-    requires { (at + n * 2 ≤ length s.now) × (n ≤ 400) }
+// A source from its hexadecimal digits.
+fn fill(src: &mut [u8], digits: &[u8])
+    requires { length src.old * 2 ≤ length digits.now }
 {
-    let mut out = [0u8; 400];
-    let mut i: usize = 0;
-    while i < n {
-        out[i] = byte(s, at + i * 2);
-        i += 1;
+    for (i, b) in src.iter_mut().enumerate() {
+        *b = byte(digits, i * 2);
     }
-    out
 }
 
 // The reply, the next place, the mode, IsTransient, FlagL, FlagN, FlagC, the noise, the tail's bit count, a checksum of the norms.
 fn print(r: Reading) {
-    show::decimal(r.reply as u64);
+    show::decimal(u64::from(r.reply));
     show::number(r.next as u64);
-    show::number(r.record.mode as u64);
+    show::number(u64::from(r.record.mode));
     show::flag(r.record.transient);
     show::flag(r.record.flag_l);
     show::flag(r.record.flag_n);
     show::flag(r.record.flag_c);
-    show::number(r.record.noise as u64);
-    show::number(r.record.tail_bits as u64);
+    show::number(u64::from(r.record.noise));
+    show::number(u64::from(r.record.tail_bits));
     show::number(checksums::of_bytes(&r.record.norms));
 }
 
 // Reads a frame into the first so many of the lent numbers and bytes.
 fn read_into(src: &[u8], n: usize, codes: &mut [u16], m: usize, tail: &mut [u8]) -> Reading {
-    let k = least(n, codes.len());
-    let j = least(m, tail.len());
-    frame::read(src, &mut codes[0..k], &mut tail[0..j])
+    let k = n.min(codes.len());
+    let j = m.min(tail.len());
+    frame::read(src, &mut codes[..k], &mut tail[..j])
 }
 
 // A frame read, then checksums of 824 numbers and of 336 bytes. The lent ones are the first of these, and before the call all of them are 42405 and
@@ -54,30 +49,28 @@ fn read_and_show(src: &[u8], n: usize, m: usize) {
     show::line_end();
 }
 
-// The line at a place: three numbers of four hexadecimal digits (bytes of the source, lent numbers, lent tail bytes) and the source's bytes.
-fn run_line(s: &[u8], at: usize, n: usize)
-    requires { (at + 16 + n * 2 ≤ length s.now) × (n ≤ 400) }
+// A line: three numbers of four hexadecimal digits (bytes of the source, lent numbers, lent tail bytes) and the source's bytes.
+fn run_line(line: &[u8], n: usize)
+    requires { (15 + n * 2 ≤ length line.now) × (n ≤ 400) }
 {
-    let src = source(s, at + 15, n);
+    let mut src = [0u8; 400];
+    fill(&mut src[..n], &line[15..]);
     read_and_show(
-        &src[0..n],
-        word(s, at + 5) as usize,
-        word(s, at + 10) as usize,
+        &src[..n],
+        usize::from(word(line, 5)),
+        usize::from(word(line, 10)),
     );
 }
 
 fn run(s: &[u8]) {
-    let mut at = 0;
-    while 16 <= s.len() - at {
-        let n = word(s, at) as usize;
-        if 400 < n {
+    let mut rest = s;
+    while 16 <= rest.len() {
+        let n = usize::from(word(rest, 0));
+        if 400 < n || rest.len() < 16 + n * 2 {
             return;
         }
-        if s.len() - at < 16 + n * 2 {
-            return;
-        }
-        run_line(s, at, n);
-        at += 16 + n * 2;
+        run_line(rest, n);
+        rest = &rest[16 + n * 2..];
     }
 }
 

@@ -2,8 +2,9 @@
 
 #![tactic(auto)]
 
-use ground::numbers::size_from_u8;
-use prefix::{Byte, Length, Mode, Prefix};
+use bits::Refusal;
+use ground::replies::Reply;
+use prefix::{Length, Mode, Prefix};
 use run_lines::show;
 use words::Word;
 
@@ -19,9 +20,9 @@ fn row(a: u64, b: u64, c: u64, d: u64) {
 fn prefix_row(b: u8) {
     let s = [b];
     show::text(b"prefix");
-    show::number(b as u64);
+    show::number(u64::from(b));
     match prefix::read_prefix(&s) {
-        Prefix::Data(l) => row(0, l.0 as u64, l.bytes() as u64, 1),
+        Prefix::Data(l) => row(0, u64::from(l.0), u64::from(l.bytes()), 1),
         Prefix::NoData => row(14, 0, 0, 1),
         Prefix::NoByte => row(1, 0, 0, 0),
         Prefix::Marked => row(2, 0, 0, 0),
@@ -32,12 +33,12 @@ fn prefix_row(b: u8) {
 // A number as a mode: its body bytes, reply and prefix byte; and as a field L: its body bytes.
 fn size_row(n: u8) {
     show::text(b"size");
-    show::number(n as u64);
-    let bytes = Mode(n).bytes() as u64;
-    let other = Length(n).bytes() as u64;
+    show::number(u64::from(n));
+    let bytes = u64::from(Mode(n).bytes());
+    let other = u64::from(Length(n).bytes());
     match prefix::write_prefix(Mode(n)) {
-        Byte::Is(b) => row(bytes, 0, b as u64, other),
-        Byte::OutOfRange => row(bytes, 8, 0, other),
+        Ok(b) => row(bytes, 0, u64::from(b), other),
+        Err(reply) => row(bytes, u64::from(u8::from(reply)), 0, other),
     }
 }
 
@@ -47,14 +48,9 @@ fn word_row(kind: u8, v: u16) {
     let mut s = [255u8; 4];
     let n = words::write_word(&mut s, 13, kind, v);
     show::text(b"word");
-    show::number(kind as u64);
-    show::number(v as u64);
-    row(
-        n as u64,
-        size_from_u8(s[1]) as u64,
-        size_from_u8(s[2]) as u64,
-        size_from_u8(s[3]) as u64,
-    );
+    show::number(u64::from(kind));
+    show::number(u64::from(v));
+    row(n as u64, u64::from(s[1]), u64::from(s[2]), u64::from(s[3]));
     if 16 < n {
         return;
     }
@@ -64,11 +60,11 @@ fn word_row(kind: u8, v: u16) {
     }
 }
 
-fn answer_row(w: Word) {
+fn answer_row(answer: Result<Word, Refusal>) {
     show::text(b"read");
-    match w {
-        Word::At(v, next) => row(0, v as u64, next as u64, 0),
-        Word::No(r) => row(bits::reply_of(r) as u64, 0, 0, 0),
+    match answer {
+        Ok(word) => row(0, u64::from(word.number), word.next as u64, 0),
+        Err(refusal) => row(u64::from(u8::from(Reply::from(refusal))), 0, 0, 0),
     }
 }
 
@@ -80,20 +76,19 @@ fn lacking_rows() {
 }
 
 fn word_rows(kind: u8, end: u16) {
-    for v in 0u16..end {
+    for v in 0..end {
         word_row(kind, v);
     }
 }
 
 fn prefix_rows() {
-    for b in 0u8..255 {
+    for b in 0..=u8::MAX {
         prefix_row(b);
     }
-    prefix_row(255);
 }
 
 fn size_rows(end: u8) {
-    for n in 0u8..end {
+    for n in 0..end {
         size_row(n);
     }
 }

@@ -1,27 +1,18 @@
 // Checksums of bytes and of numbers, in their order.
 ghost use Rattle.std.specs.Prelude.{◌≡◌, ◌+◌, ◌*◌, ◌%◌};
 
-use ground::numbers::u16_from_u8;
-
 // A checksum with one number more.
 pub fn mixed(c: u64, x: u16) -> u64
     ensures { result ≡ (c % 65521 * 31 + x) % 65521 }
 {
-    (c % 65521 * 31 + x as u64) % 65521
+    (c % 65521 * 31 + u64::from(x)) % 65521
 }
 
+// Of bytes, and below of numbers: one function over both would be no plainer than these two chains of a line.
 pub fn of_bytes(xs: &[u8]) -> u64 {
-    let mut c: u64 = 0;
-    for i in 0usize..xs.len() {
-        c = mixed(c, u16_from_u8(xs[i]));
-    }
-    c
+    xs.iter().fold(0, |c, x| mixed(c, u16::from(*x)))
 }
 
 pub fn of_numbers(xs: &[u16]) -> u64 {
-    let mut c: u64 = 0;
-    for i in 0usize..xs.len() {
-        c = mixed(c, xs[i]);
-    }
-    c
+    xs.iter().fold(0, |c, x| mixed(c, *x))
 }

@@ -5,8 +5,8 @@ fn digit(b: u8) -> u8
     ensures { result < 16 }
 {
     match b {
-        48..=57 => b - 48,
-        97..=102 => b - 87,
+        b'0'..=b'9' => b - b'0',
+        b'a'..=b'f' => b - b'a' + 10,
         _ => 0,
     }
 }
@@ -22,5 +22,5 @@ pub fn byte(s: &[u8], at: usize) -> u8
 pub fn word(s: &[u8], at: usize) -> u16
     requires { at + 4 ≤ length s.now }
 {
-    byte(s, at) as u16 * 256 + byte(s, at + 2) as u16
+    u16::from_be_bytes([byte(s, at), byte(s, at + 2)])
 }

@@ -4,7 +4,6 @@
 
 pub mod checksums;
 pub mod hexadecimal;
-pub mod lines;
 pub mod lists;
 pub mod numbers;
 pub mod records;

@@ -1,137 +1,83 @@
 // Lists of numbers in a line. A list ends at a comma or at the line's end. An item of it is a space, a number and, where the number fills many places, an
 // asterisk and how many. Behind the line's end lists are empty.
-ghost use Rattle.std.specs.Prelude.{◌<◌, ◌≤◌, length};
+ghost use Rattle.std.specs.Prelude.{◌≤◌, length};
 
-use crate::numbers::{least, low};
-use ground::numbers::u16_from_u8;
+use crate::numbers::low;
 
-// A number and the place after it.
-#[derive(Drop)]
-struct Number {
-    value: usize,
-    next: usize,
-}
-
-// A value, how many places it fills, and the place after the item.
-#[derive(Drop)]
-struct Item {
-    value: usize,
-    count: usize,
-    next: usize,
-}
-
-// How many places a list has filled, and the place after the list.
+// What is left of a line.
 #[derive(Clone, Copy)]
-pub struct Filled {
-    pub count: usize,
-    pub next: usize,
+pub struct Line<'a> {
+    pub rest: &'a [u8],
 }
 
-// The number at a place, up to the first byte that is no digit.
-fn number_at(s: &[u8], at: usize) -> Number
-    requires { at ≤ length s.now }
-    ensures { (result.value < 65536) × (at ≤ result.next) × (result.next ≤ length s.now) }
-{
-    let mut value: usize = 0;
-    let mut p = at;
-    while p < s.len() {
-        let b = u16_from_u8(s[p]);
-        if b < 48 {
-            return Number { value, next: p };
-        }
-        value = (value * 10 + (b - 48) as usize) % 65536;
-        p += 1;
-    }
-    Number { value, next: p }
-}
-
-// The item that begins at a place.
-fn item_at(s: &[u8], at: usize) -> Item
-    requires { at < length s.now }
-    ensures { (result.value < 65536) × (at < result.next) × (result.next ≤ length s.now) }
-{
-    let one = number_at(s, at + 1);
-    let next = one.next;
-    if next < s.len() {
-        if s[next] == b'*' {
-            let many = number_at(s, next + 1);
-            return Item {
-                value: one.value,
-                count: many.value,
-                next: many.next,
-            };
-        }
-    }
-    Item {
-        value: one.value,
-        count: 1,
-        next,
-    }
-}
-
-fn is_end(b: u8) -> bool {
-    if b == b',' {
-        return true;
-    }
-    b == b'\n'
-}
-
-// Puts a number into so many places from n on, as far as there are.
-fn put(out: &mut [u16], n: usize, value: u16, count: usize) -> usize
+// Puts a value into so many places from n on, as far as there are.
+fn put<T: Copy>(out: &mut [T], n: usize, value: T, count: usize) -> usize
     requires { n ≤ length out.old }
     ensures { result ≤ length out.old }
 {
-    let mut left = count;
-    let mut at = n;
-    while 0 < left {
-        if at == out.len() {
-            return at;
+    let end = out.len().min(n.saturating_add(count));
+    for place in &mut out[n..end] {
+        *place = value;
+    }
+    end
+}
+
+impl Line<'_> {
+    // The number that comes, up to the first byte that is below the digits.
+    fn number(&mut self) -> u16
+        ensures { length self.new.rest.now ≤ length self.old.rest.now }
+    {
+        let line = self.rest;
+        let end = line.iter().position(|b| *b < b'0').unwrap_or(line.len());
+        let (digits, rest) = line.split_at(end);
+        self.rest = rest;
+        digits.iter().fold(0, |value: u16, digit| {
+            value
+                .wrapping_mul(10)
+                .wrapping_add(u16::from(digit.wrapping_sub(b'0')))
+        })
+    }
+
+    // The item that comes, behind its space: a value, and how many places it fills.
+    fn item(&mut self) -> (u16, usize)
+        ensures { length self.new.rest.now ≤ length self.old.rest.now }
+    {
+        let value = self.number();
+        let Some((b'*', rest)) = self.rest.split_first() else {
+            return (value, 1);
+        };
+        self.rest = rest;
+        (value, usize::from(self.number()))
+    }
+
+    // Fills places with what the numbers of the list make, as far as there are places; answers how many it has filled.
+    fn fill<T: Copy, F: Fn(u16) -> T>(&mut self, out: &mut [T], made: F) -> usize
+        requires { F.IsAlwaysCallable made }
+        ensures { result ≤ length out.old }
+    {
+        let mut n: usize = 0;
+        while let Some((first, rest)) = self.rest.split_first() {
+            self.rest = rest;
+            if matches!(*first, b',' | b'\n') {
+                break;
+            }
+            let (value, count) = self.item();
+            n = put(out, n, made(value), count);
         }
-        out[at] = value;
-        at += 1;
-        left -= 1;
+        n
     }
-    at
-}
 
-// Fills numbers from the list at a place, as far as there are places.
-pub fn fill_numbers(s: &[u8], at: usize, out: &mut [u16]) -> Filled
-    requires { at ≤ length s.now }
-    ensures { (result.count ≤ length out.old) × (result.next ≤ length s.now) }
-{
-    let mut n: usize = 0;
-    let mut p = at;
-    while p < s.len() {
-        if is_end(s[p]) {
-            return Filled {
-                count: n,
-                next: p + 1,
-            };
-        }
-        let item = item_at(s, p);
-        n = put(out, n, item.value as u16, item.count);
-        p = item.next;
+    // Fills numbers from the list, as far as there are places.
+    pub fn fill_numbers(&mut self, out: &mut [u16]) -> usize
+        ensures { result ≤ length out.old }
+    {
+        self.fill(out, |number| number)
     }
-    Filled { count: n, next: p }
-}
 
-// Puts the low bytes of the first n numbers.
-fn put_low(out: &mut [u8], numbers: &[u16; 6424], n: usize)
-    requires { (n ≤ length out.old) × (n ≤ 6424) }
-{
-    for i in 0usize..n {
-        out[i] = low(numbers[i]);
+    // Fills bytes from the list: the low bytes of its numbers, as far as there are places.
+    pub fn fill_bytes(&mut self, out: &mut [u8]) -> usize
+        ensures { result ≤ length out.old }
+    {
+        self.fill(out, low)
     }
-}
-
-// Fills bytes from the list at a place: the low bytes of its numbers, as far as there are places, at most 6,424.
-pub fn fill_bytes(s: &[u8], at: usize, out: &mut [u8]) -> Filled
-    requires { at ≤ length s.now }
-    ensures { (result.count ≤ length out.old) × (result.next ≤ length s.now) }
-{
-    let mut numbers = [0u16; 6424];
-    let k = least(out.len(), 6424);
-    let filled = fill_numbers(s, at, &mut numbers[0..k]);
-    put_low(out, &numbers, filled.count);
-    filled
 }

@@ -1,7 +1,5 @@
 // What the programs write to standard output.
 use crate::checksums;
-use crate::numbers::{least, of_flag};
-use ground::numbers::{minus, u16_from_u8};
 
 // Standard output by its number.
 const STDOUT_FILENO: i32 = 1;
@@ -27,7 +25,7 @@ pub fn number(n: u64) {
 
 // A flag as 1 or 0.
 pub fn flag(b: bool) {
-    number(of_flag(b) as u64);
+    number(u64::from(b));
 }
 
 pub fn line_end() {
@@ -37,30 +35,28 @@ pub fn line_end() {
 // The name of a call, its reply, and the next place.
 pub fn answer(name: &[u8], reply: u8, next: usize) {
     text(name);
-    number(reply as u64);
+    number(u64::from(reply));
     number(next as u64);
 }
 
 // Each byte as a number.
 pub fn numbers(xs: &[u8]) {
-    for i in 0usize..xs.len() {
-        number(u16_from_u8(xs[i]) as u64);
+    for x in xs {
+        number(u64::from(*x));
     }
 }
 
 // The bytes in hexadecimal digits, a space in front of the first.
 pub fn bytes(xs: &[u8]) {
     text(b" ");
-    for i in 0usize..xs.len() {
-        hexadecimal(u16_from_u8(xs[i]) as u64, 2);
+    for x in xs {
+        hexadecimal(u64::from(*x), 2);
     }
 }
 
 // What stands in an output: its checksum, its first sixteen bytes and its last four, as far as there are.
 pub fn output(out: &[u8]) {
     number(checksums::of_bytes(out));
-    let first = least(out.len(), 16);
-    bytes(&out[0..first]);
-    let last = minus(out.len(), 4);
-    bytes(&out[last..]);
+    bytes(&out[..out.len().min(16)]);
+    bytes(&out[out.len().saturating_sub(4)..]);
 }

@@ -2,51 +2,46 @@
 
 #![tactic(auto)]
 
-use ground::numbers::minus;
-use run_lines::numbers::{least, of_flag};
+use ground::replies::{DONE, Reply};
 use run_lines::show;
 
 // How many bytes of a text are newlines.
-fn lines(text: &[u8]) -> u64 {
-    let mut n: u64 = 0;
-    let mut i: usize = 0;
-    while i < text.len() {
-        n = (n + of_flag(text[i] == b'\n') as u64) % 65536;
-        i += 1;
-    }
-    n
+fn lines(text: &[u8]) -> usize {
+    text.iter().filter(|b| **b == b'\n').count()
 }
 
 // The reply, the length and how many lines there are; then the last 64 bytes of the text, or all.
-fn tell(text: &[u8], reply: u8, length: usize) {
-    show::decimal(reply as u64);
+fn tell(text: &[u8], answer: Result<usize, Reply>) {
+    let (reply, length) = match answer {
+        Ok(n) => (DONE, n),
+        Err(reply) => (reply.into(), 0),
+    };
+    show::decimal(u64::from(reply));
     show::number(length as u64);
-    show::number(lines(text));
+    show::number(lines(text) as u64);
     show::line_end();
-    let from = minus(text.len(), 64);
-    show::text(&text[from..]);
+    show::text(&text[text.len().saturating_sub(64)..]);
 }
 
 // Lists a recording.
 fn run(src: &[u8]) {
     let mut out = [0u8; 33030];
-    let r = listing::list(src, &mut out);
-    let m = least(r.length, 33030);
-    tell(&out[0..m], r.reply, r.length);
+    let answer = listing::list(src, &mut out);
+    let length = answer.unwrap_or(0).min(33030);
+    tell(&out[..length], answer);
 }
 
 // So many empty frames.
 fn run_zeros(n: usize) {
     let zeros = [0u8; 65537];
-    let k = least(n, 65537);
-    run(&zeros[0..k]);
+    run(&zeros[..n.min(65537)]);
 }
 
 // Two empty frames, and a room that is short: its bytes stay.
 fn run_short() {
     let mut out = *b"as it was\n";
-    let r = listing::list(&[0, 0], &mut out);
-    tell(&out, r.reply, r.length);
+    let answer = listing::list(&[0, 0], &mut out);
+    tell(&out, answer);
 }
 
 fn main() {

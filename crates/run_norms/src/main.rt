@@ -3,9 +3,9 @@
 
 #![tactic(auto)]
 
+use ground::replies::{Reply, number_of};
 use norms::NormPart;
 use run_lines::checksums::of_bytes;
-use run_lines::numbers::of_flag;
 use run_lines::show;
 
 fn title(name: &[u8], a: u64, b: u64, c: u64) {
@@ -26,33 +26,24 @@ fn byte_of(x: u32) -> u8 {
 
 // A byte below span, or any where span is 0.
 fn below(span: u8, x: u8) -> u8 {
-    if span == 0 {
-        return x;
-    }
-    x % span
+    if span == 0 { x } else { x % span }
 }
 
 // From least on, below least + span.
 fn drawn_byte(x: u32, least: u8, span: u8) -> u8 {
-    ((least as u32 + below(span, byte_of(x)) as u32) % 256) as u8
+    ((u32::from(least) + u32::from(below(span, byte_of(x)))) % 256) as u8
 }
 
 fn draw(out: &mut [u8], seed: u32, least: u8, span: u8) {
     let mut x = seed;
-    for i in 0usize..out.len() {
+    for byte in out.iter_mut() {
         x = after(x);
-        out[i] = drawn_byte(x, least, span);
+        *byte = drawn_byte(x, least, span);
     }
 }
 
 fn rising() -> [u8; 44] {
-    let mut out = [0u8; 44];
-    let mut i: usize = 0;
-    while i < 44 {
-        out[i] = i as u8;
-        i += 1;
-    }
-    out
+    std::array::from_fn(|band| band as u8)
 }
 
 fn order_row(bands: [u8; 44]) {
@@ -61,13 +52,11 @@ fn order_row(bands: [u8; 44]) {
     show::line_end();
 }
 
-fn read_row(part: NormPart) {
-    title(
-        b"read",
-        part.reply as u64,
-        part.next as u64,
-        of_bytes(&part.norms),
-    );
+fn read_row(read: Result<NormPart, Reply>) {
+    match read {
+        Ok(part) => title(b"read", 0, part.next as u64, of_bytes(&part.norms)),
+        Err(reply) => title(b"read", u64::from(u8::from(reply)), 0, 0),
+    }
 }
 
 // The norm part written at bit 13: its bits as counted and as written, the bytes, and what is read back with as many bits before the end as
@@ -95,13 +84,13 @@ fn norm_rows(transient: bool, norms: [u8; 44]) {
     let legal = legal::legalise(transient, norms);
     title(
         b"norms",
-        norms::norm_reply(transient, norms) as u64,
-        choice.reply as u64,
-        of_flag(choice.flag) as u64,
+        u64::from(number_of(norms::norm_reply(transient, norms))),
+        u64::from(number_of(choice.map(|_| ()))),
+        u64::from(choice.unwrap_or(false)),
     );
     title(
         b"legal",
-        legal.reply as u64,
+        u64::from(legal.reply),
         of_bytes(&legal.norms),
         of_bytes(&order::sent_order(transient, norms)),
     );
@@ -110,7 +99,7 @@ fn norm_rows(transient: bool, norms: [u8; 44]) {
 }
 
 fn drawn_rows(seed: u32, least: u8, span: u8) {
-    title(b"drawn", seed as u64, least as u64, span as u64);
+    title(b"drawn", u64::from(seed), u64::from(least), u64::from(span));
     let mut norms = [0u8; 44];
     draw(&mut norms, seed, least, span);
     norm_rows(false, norms);
@@ -119,7 +108,7 @@ fn drawn_rows(seed: u32, least: u8, span: u8) {
 
 // All norms the same but that of one band.
 fn one_rows(band: usize, norm: u8, others: u8) {
-    title(b"one", band as u64, norm as u64, others as u64);
+    title(b"one", band as u64, u64::from(norm), u64::from(others));
     let mut norms = [others; 44];
     if band < 44 {
         norms[band] = norm;
@@ -136,14 +125,19 @@ fn reads(s: [u8; 40], flag_n: bool) {
 fn byte_rows(seed: u32) {
     let mut s = [0u8; 40];
     draw(&mut s, seed, 0, 0);
-    title(b"bytes", seed as u64, 0, of_bytes(&s));
+    title(b"bytes", u64::from(seed), 0, of_bytes(&s));
     reads(s, false);
     reads(s, true);
 }
 
 // A norm part by the numbers sent: three as they are given, then differences of 0.
 fn sent_rows(first: u16, second: u16, third: u16, flag_n: bool) {
-    title(b"sent", first as u64, second as u64, third as u64);
+    title(
+        b"sent",
+        u64::from(first),
+        u64::from(second),
+        u64::from(third),
+    );
     let mut kinds = [if flag_n { words::NORM_WORDS } else { 5 }; 44];
     kinds[0] = 5;
     let mut numbers = [15u16; 44];
@@ -162,45 +156,57 @@ fn both_rows(first: u16, second: u16, third: u16) {
 
 // Differences of 16 and -15, and those one further; both ends of the first index and of the others.
 fn bounds() {
-    one_rows(43, 36, 20);
-    one_rows(43, 37, 20);
-    one_rows(43, 5, 20);
-    one_rows(43, 4, 20);
-    one_rows(6, 36, 20);
-    one_rows(6, 37, 20);
-    one_rows(6, 5, 20);
-    one_rows(6, 4, 20);
-    one_rows(0, 20, 20);
-    one_rows(0, 31, 20);
-    one_rows(0, 32, 20);
-    one_rows(0, 39, 0);
-    one_rows(22, 39, 30);
-    one_rows(22, 40, 30);
+    for (band, norm, others) in [
+        (43, 36, 20),
+        (43, 37, 20),
+        (43, 5, 20),
+        (43, 4, 20),
+        (6, 36, 20),
+        (6, 37, 20),
+        (6, 5, 20),
+        (6, 4, 20),
+        (0, 20, 20),
+        (0, 31, 20),
+        (0, 32, 20),
+        (0, 39, 0),
+        (22, 39, 30),
+        (22, 40, 30),
+    ] {
+        one_rows(band, norm, others);
+    }
 }
 
 // Wild, in range, smooth; the last three have words of 214 or 215 bits in one kind of frame or both.
 fn draws() {
-    drawn_rows(1, 0, 44);
-    drawn_rows(2, 0, 40);
-    drawn_rows(3, 0, 40);
-    drawn_rows(4, 0, 19);
-    drawn_rows(5, 20, 20);
-    drawn_rows(6, 10, 6);
-    drawn_rows(13, 5, 16);
-    drawn_rows(25, 5, 16);
-    drawn_rows(244, 5, 16);
+    for (seed, least, span) in [
+        (1, 0, 44),
+        (2, 0, 40),
+        (3, 0, 40),
+        (4, 0, 19),
+        (5, 20, 20),
+        (6, 10, 6),
+        (13, 5, 16),
+        (25, 5, 16),
+        (244, 5, 16),
+    ] {
+        drawn_rows(seed, least, span);
+    }
 }
 
 // Indices that stay in 0 to 39, and that leave it and come back.
 fn leaves() {
-    both_rows(31, 23, 7);
-    both_rows(31, 24, 6);
-    both_rows(31, 31, 0);
-    both_rows(1, 14, 16);
-    both_rows(0, 14, 16);
-    byte_rows(1);
-    byte_rows(6);
-    byte_rows(13);
+    for (first, second, third) in [
+        (31, 23, 7),
+        (31, 24, 6),
+        (31, 31, 0),
+        (1, 14, 16),
+        (0, 14, 16),
+    ] {
+        both_rows(first, second, third);
+    }
+    for seed in [1, 6, 13] {
+        byte_rows(seed);
+    }
 }
 
 fn main() {

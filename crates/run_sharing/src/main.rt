@@ -4,50 +4,35 @@
 
 ghost use Rattle.std.specs.Prelude.{length, ◌≤◌};
 
-use ground::numbers::raise;
 use run_lines::show;
 
 fn digit(b: u8) -> u8 {
-    if 48 <= b { b - 48 } else { 0 }
+    b.saturating_sub(b'0')
 }
 
+// Five digits written out: plainer than a loop and its bound.
 fn budget_of(line: &[u8]) -> u32
     requires { 51 ≤ length line.now }
 {
-    let high = digit(line[2]) as u32 * 10000 + digit(line[3]) as u32 * 1000;
-    let low = digit(line[4]) as u32 * 100 + digit(line[5]) as u32 * 10 + digit(line[6]) as u32;
-    high + low
+    let high = u32::from(digit(line[2])) * 100
+        + u32::from(digit(line[3])) * 10
+        + u32::from(digit(line[4]));
+    high * 100 + u32::from(digit(line[5])) * 10 + u32::from(digit(line[6]))
 }
 
 fn norms_of(line: &[u8]) -> [u8; 44]
     requires { 51 ≤ length line.now }
 {
-    let mut out = [0u8; 44];
-    let mut i = 0;
-    while i < 44 {
-        out[i] = digit(line[7 + i]);
-        i += 1;
-    }
-    out
+    std::array::from_fn(|p| digit(line[7 + p]))
 }
 
 fn show_signed(v: i16) {
-    let u = raise(v);
-    if u < 32768 {
-        show::text(b" -");
-        show::decimal((32768 - u) as u64);
+    show::text(if v < 0 {
+        b" -".as_slice()
     } else {
-        show::number((u - 32768) as u64);
-    }
-}
-
-fn show_scores(row: &[i16; 44]) {
-    let mut i = 0;
-    while i < 44 {
-        let z = row[i];
-        show_signed(z);
-        i += 1;
-    }
+        b" ".as_slice()
+    });
+    show::decimal(u64::from(v.unsigned_abs()));
 }
 
 // A line of 52 bytes: the kind of frame and whether bands 36 to 43 compete, each 0 or 1, five digits of budget, and 44 norm indices, each as the
@@ -55,40 +40,33 @@ fn show_scores(row: &[i16; 44]) {
 fn run(line: &[u8])
     requires { 51 ≤ length line.now }
 {
-    let transient = line[0] == 49;
-    let all = line[1] == 49;
+    let transient = line[0] == b'1';
+    let all = line[1] == b'1';
     let norms = norms_of(line);
     let budget = budget_of(line);
     let w = weights::weigh(transient, norms);
-    let ws = w.weights;
-    let scores = w.scores;
     show::text(b"weights");
-    show::number(w.reply as u64);
-    show::numbers(&ws);
+    show::number(u64::from(w.reply));
+    show::numbers(&w.weights);
     show::text(b"\nscores");
-    show_scores(&scores);
-    let s = allotment::allot(transient, all, norms, budget);
-    let rates = s.rates;
-    show::text(b"\nrates");
-    show::number(s.reply as u64);
-    show::numbers(&rates);
-    show::text(b" left");
-    show::number(s.left as u64);
-    show::text(b" rounds");
-    show::number(s.rounds as u64);
-    show::line_end();
-}
-
-fn run_all(text: &[u8]) {
-    let mut at = 0;
-    while 52 <= text.len() - at {
-        run(&text[at..at + 52]);
-        at += 52;
+    for score in w.scores {
+        show_signed(score);
     }
+    let s = allotment::allot(transient, all, norms, budget);
+    show::text(b"\nrates");
+    show::number(u64::from(s.reply));
+    show::numbers(&s.rates);
+    show::text(b" left");
+    show::number(u64::from(s.left));
+    show::text(b" rounds");
+    show::number(u64::from(s.rounds));
+    show::line_end();
 }
 
 fn main() {
     let mut buf = io::buffer();
     let n = io::read_full(0, &mut buf);
-    run_all(&buf[..n]);
+    for line in buf[..n].chunks_exact(52) {
+        run(line);
+    }
 }

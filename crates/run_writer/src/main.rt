@@ -2,72 +2,13 @@
 
 #![tactic(auto)]
 
-ghost use Rattle.std.specs.Prelude.{◌<◌, length};
-
 use frame::Record;
-use ground::numbers::u16_from_u8;
-use run_lines::lists::{fill_bytes, fill_numbers};
-use run_lines::numbers::least;
-use run_lines::records::record_at;
-use run_lines::{lines, show};
-
-// Bytes as numbers, 0 past their end.
-fn numbers_of(xs: &[u8]) -> [u16; 400] {
-    let mut out = [0u16; 400];
-    let n = least(xs.len(), 400);
-    for i in 0usize..n {
-        out[i] = u16_from_u8(xs[i]);
-    }
-    out
-}
-
-fn number_at(xs: &[u16], at: usize) -> u16 {
-    if at < xs.len() { xs[at] } else { 0 }
-}
-
-// Whether two slices have the same first n numbers, 0 past their ends.
-fn same(a: &[u16], b: &[u16], n: usize) -> bool {
-    for i in 0usize..n {
-        if number_at(a, i) != number_at(b, i) {
-            return false;
-        }
-    }
-    true
-}
-
-fn same_record(a: Record, b: Record) -> bool {
-    let x = a.norms;
-    let y = b.norms;
-    if !same(&numbers_of(&x), &numbers_of(&y), 44) {
-        return false;
-    }
-    if a.mode != b.mode {
-        return false;
-    }
-    if a.transient != b.transient {
-        return false;
-    }
-    if a.flag_l != b.flag_l {
-        return false;
-    }
-    if a.flag_n != b.flag_n {
-        return false;
-    }
-    if a.flag_c != b.flag_c {
-        return false;
-    }
-    if a.noise != b.noise {
-        return false;
-    }
-    a.tail_bits == b.tail_bits
-}
+use ground::replies::{DONE, number_of};
+use run_lines::lists::Line;
+use run_lines::show;
 
 fn yes(b: bool) {
-    if b {
-        show::text(b" yes");
-    } else {
-        show::text(b" no");
-    }
+    show::text(if b { b" yes" } else { b" no" });
 }
 
 // Reads a frame back: the reply, and whether record, codes and tail are those written.
@@ -75,10 +16,10 @@ fn show_back(r: Record, codes: &[u16], tail: &[u8], written: &[u8]) {
     let mut numbers = [42405u16; 800];
     let mut rest = [165u8; 320];
     let got = frame::read(written, &mut numbers, &mut rest);
-    show::number(got.reply as u64);
-    yes(same_record(got.record, r));
-    yes(same(&numbers, codes, 800));
-    yes(same(&numbers_of(&rest), &numbers_of(tail), 320));
+    show::number(u64::from(got.reply));
+    yes(got.record == r);
+    yes(codes.starts_with(&numbers));
+    yes(tail.starts_with(&rest));
 }
 
 // The reply, the next place, and what stands in the whole lent output after the call; after a reply 0 also what is read back.
@@ -86,7 +27,7 @@ fn write_and_show(r: Record, codes: &[u16], tail: &[u8], out: &mut [u8]) {
     let w = writer::write(r, codes, tail, out);
     show::answer(b"w", w.reply, w.next);
     show::output(out);
-    if w.reply == 0 {
+    if w.reply == DONE {
         show_back(r, codes, tail, out);
     }
     show::line_end();
@@ -97,32 +38,30 @@ fn run_write(s: &[u8]) {
     let mut codes = [0u16; 824];
     let mut tail = [0u8; 336];
     let mut out = [0u8; 400];
-    let given = record_at(s, 0);
-    let a = fill_numbers(s, given.next, &mut codes);
-    let b = fill_bytes(s, a.next, &mut tail);
-    let c = fill_bytes(s, b.next, &mut out);
-    let n = a.count;
-    let m = b.count;
-    let k = c.count;
-    write_and_show(given.record, &codes[0..n], &tail[0..m], &mut out[0..k]);
+    let mut line = Line { rest: s };
+    let record = line.record();
+    let n = line.fill_numbers(&mut codes);
+    let m = line.fill_bytes(&mut tail);
+    let k = line.fill_bytes(&mut out);
+    write_and_show(record, &codes[..n], &tail[..m], &mut out[..k]);
 }
 
 // The reply and the flag.
 fn choose_and_show(r: Record, codes: &[u16]) {
     let c = choice::choose_flag_c(r, codes);
     show::text(b"c");
-    show::number(c.reply as u64);
-    show::flag(c.flag);
+    show::number(u64::from(number_of(c.map(|_| ()))));
+    show::flag(c.unwrap_or(false));
     show::line_end();
 }
 
 // A line of c: seven numbers and norms of a record, the lent codes.
 fn run_choice(s: &[u8]) {
     let mut codes = [0u16; 824];
-    let given = record_at(s, 0);
-    let a = fill_numbers(s, given.next, &mut codes);
-    let n = a.count;
-    choose_and_show(given.record, &codes[0..n]);
+    let mut line = Line { rest: s };
+    let record = line.record();
+    let n = line.fill_numbers(&mut codes);
+    choose_and_show(record, &codes[..n]);
 }
 
 // The reply, the next place, and the lent output after the call.
@@ -136,30 +75,24 @@ fn empty_and_show(out: &mut [u8]) {
 // A line of e: the lent output.
 fn run_empty(s: &[u8]) {
     let mut out = [0u8; 400];
-    let a = fill_bytes(s, 0, &mut out);
-    let n = a.count;
-    empty_and_show(&mut out[0..n]);
+    let n = Line { rest: s }.fill_bytes(&mut out);
+    empty_and_show(&mut out[..n]);
 }
 
 // A line is a letter and lists. A line of # is a heading, written as it stands; of another letter an empty line is written.
-fn run_line(line: &[u8])
-    requires { 0 < length line.now }
-{
-    match line[0] {
-        b'#' => show::text(line),
-        b'c' => run_choice(&line[1..]),
-        b'e' => run_empty(&line[1..]),
-        b'w' => run_write(&line[1..]),
+fn run_line(line: &[u8]) {
+    match line.split_first() {
+        Some((b'#', _)) => show::text(line),
+        Some((b'c', lists)) => run_choice(lists),
+        Some((b'e', lists)) => run_empty(lists),
+        Some((b'w', lists)) => run_write(lists),
         _ => show::line_end(),
     }
 }
 
 fn run(s: &[u8]) {
-    let mut at = 0;
-    while at < s.len() {
-        let end = lines::after(s, at);
-        run_line(&s[at..end]);
-        at = end;
+    for line in s.split_inclusive(|b| *b == b'\n') {
+        run_line(line);
     }
 }
 

@@ -7,18 +7,18 @@ use Rattle.bits.specs.Codings.{reply_of, Coding, Answer, got, no, unword}
 use Rattle.bits.specs.Codecs.{read_all}
 use Rattle.words.specs.Tables.{coding}
 use Rattle.words.specs.declared.Word.{Word}
-use Rattle.words.specs.declared.Word.TheVariants.{At, No}
-use Rattle.runs.specs.declared.Run.{Run}
-use Rattle.runs.specs.declared.Run.TheVariants as run
+use Rattle.std.specs.declared.result.Result.{Result}
+use Rattle.std.specs.declared.result.Result.TheVariants.{Ok, Err}
+use Rattle.bits.specs.declared.Refusal.{Refusal}
 
 -- the words of the kinds, all before the end
 unfoldable pub run_at : List ℕ → ℕ → ℕ → List ℕ → Answer (List ℕ)
 run_at s at end kinds = read_all (map coding kinds) (view s at (end - at))
 
 -- the next place or the refusal, of a run that began at `at` with `left` bits to read
-abbrev pub ran : ℕ → ℕ → Answer (List ℕ) → Run
-ran at left (got vs r) = run.Done (at + (left - length r))
-ran at left (no x) = run.No x
+abbrev pub ran : ℕ → ℕ → Answer (List ℕ) → Result ℕ Refusal
+ran at left (got vs r) = Ok (at + (left - length r))
+ran at left (no x) = Err x
 
 abbrev pub more : Answer ℕ → (List Bool → List ℕ) → List ℕ
 more (got v r) f = v ∷ f r
@@ -36,11 +36,12 @@ read_some s at end kinds = some_of (map coding kinds) (view s at (end - at))
 abbrev pub over : List ℕ → List ℕ → List ℕ
 over vs out = vs ++ drop (length vs) out
 
-abbrev pub passed_up : Word → Run
-passed_up (At v next) = run.Done next
-passed_up (No x) = run.No x
+-- a word's refusal as the run's
+abbrev pub passed_up : Result Word Refusal → Result ℕ Refusal
+passed_up (Ok w) = Ok w.next
+passed_up (Err x) = Err x
 
 -- 01's number for a run
-abbrev pub run_reply : Run → ℕ
-run_reply (run.Done p) = done
-run_reply (run.No x) = reply_of x
+abbrev pub run_reply : Result ℕ Refusal → ℕ
+run_reply (Ok p) = done
+run_reply (Err x) = reply_of x

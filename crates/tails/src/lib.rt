@@ -21,18 +21,9 @@ pub fn fill_tail(s: &[u8], at: usize, tail: &mut [u8])
     requires { (320 ≤ length tail.old) × (at < 65536) }
     ensures { tail.new ≡ tail_from s.now at ++ drop 320 tail.old }
 {
-    let mut i: usize = 0;
-    while i < 320 {
-        tail[i] = tail_byte(s, at + i * 8);
-        i += 1;
+    for (i, byte) in tail[..320].iter_mut().enumerate() {
+        *byte = tail_byte(s, at + i * 8);
     }
-}
-
-// At most 16 bits at a time.
-fn step_of(n: usize) -> usize
-    ensures { (result ≤ 16) × (result ≤ n) × (0 < n → 0 < result) }
-{
-    if n < 16 { n } else { 16 }
 }
 
 // Whether the bits from a place up to an end are all 0.
@@ -40,13 +31,10 @@ pub fn all_clear(s: &[u8], at: usize, end: usize) -> bool
     requires { end < 65536 }
     ensures { result ≡ clear (view s.now at (end - at)) }
 {
-    let mut p = at;
-    while p < end {
-        let n = step_of(end - p);
-        if bits::read_bits(s, p, n) != 0 {
+    for p in (at..end).step_by(16) {
+        if bits::read_bits(s, p, end - p) != 0 {
             return false;
         }
-        p += n;
     }
     true
 }
@@ -56,10 +44,7 @@ pub fn copy_bits(s: &[u8], n: usize, out: &mut [u8], at: usize)
     requires { at + n < 4294967296 }
     ensures { out.new ≡ laid out.old at (view s.now 0 n) }
 {
-    let mut j: usize = 0;
-    while j < n {
-        let k = step_of(n - j);
-        bits::write_bits(out, at + j, k, bits::read_bits(s, j, k));
-        j += k;
+    for j in (0..n).step_by(16) {
+        bits::write_bits(out, at + j, n - j, bits::read_bits(s, j, n - j));
     }
 }

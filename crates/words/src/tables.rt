@@ -1,7 +1,7 @@
 // The words of Table 20 as the code looks them up. Columns 0 to 3 are those for the rates 2 to 5.
 
 // For seven bits of each column: 8 times the number, and the length of its word. 0 for the word that the 5-bit column lacks.
-pub const READING: [u8; 512] = [
+pub static READING: [u8; 512] = [
     1, 1, 1, 1, 1, 1, 1, 1, 1, 1, 1, 1, 1, 1, 1, 1, 1, 1, 1, 1, 1, 1, 1, 1, 1, 1, 1, 1, 1, 1, 1, 1,
     1, 1, 1, 1, 1, 1, 1, 1, 1, 1, 1, 1, 1, 1, 1, 1, 1, 1, 1, 1, 1, 1, 1, 1, 1, 1, 1, 1, 1, 1, 1, 1,
     26, 26, 26, 26, 26, 26, 26, 26, 26, 26, 26, 26, 26, 26, 26, 26, 26, 26, 26, 26, 26, 26, 26, 26,
@@ -26,7 +26,7 @@ pub const READING: [u8; 512] = [
 ];
 
 // The words of all columns, one after the other: 8 times a word's value, and its length.
-pub const WRITING: [u16; 60] = [
+pub static WRITING: [u16; 60] = [
     1, 51, 59, 18, 2, 10, 76, 133, 141, 84, 92, 26, 2, 51, 52, 60, 165, 173, 181, 374, 382, 133,
     141, 149, 157, 36, 44, 59, 2, 19, 68, 165, 173, 390, 398, 406, 414, 903, 911, 919, 927, 935,
     943, 951, 959, 967, 975, 983, 991, 999, 1007, 1023, 422, 430, 438, 446, 181, 189, 76, 27,

@@ -3,6 +3,5 @@ pub mod Bodies
 pub mod Empty
 pub mod PlainCodes
 pub mod ReadBack
-pub mod Noise
 pub mod WriteBack
 pub mod Writes

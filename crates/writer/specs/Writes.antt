@@ -1,6 +1,10 @@
 -- What writing a record answers (01, Numbered replies): 8 for the mode, 10, the other causes of 8, 9, 12, 7, 13; and the bytes of the frame.
 -- Assumes nothing.
 use Rattle.std.specs.Prelude.{◌≡◌, true, cond, not, List, [], ◌∷◌, ◌++◌, ℕ, ◌+◌, ◌-◌, ◌≤◌, ◌<◌, ltb, eqb, length, take, drop}
+use Rattle.std.specs.declared.result.Result.{Result}
+use Rattle.std.specs.declared.result.Result.TheVariants.{Ok, Err}
+use Rattle.ground.specs.Numbered.{number}
+use Rattle.ground.specs.declared.replies.Reply.{Reply}
 use Rattle.ground.specs.Refusals.{Cause, ◌gives◌, first}
 use Rattle.ground.specs.Replies.{done, out_of_range, short_room, wrong_tail}
 use Rattle.bits.specs.Bits.{view, bytes_of}
@@ -57,6 +61,11 @@ write_reply r cs ts room = first (write_causes r cs ts room)
 
 abbrev pub writing_of : ℕ → ℕ → Writing
 writing_of reply mode = cond (eqb reply 0) (record { reply = done; next = mode_bytes mode + 1 }) (record { reply = reply; next = 0 })
+
+-- the next place, or a refusal alone
+abbrev pub answered : Result ℕ Reply → Writing
+answered (Ok next) = record { reply = done; next = next }
+answered (Err r) = record { reply = number r; next = 0 }
 
 -- on 0 exactly frame + 1 bytes change
 abbrev pub out_after : ℕ → Record → List ℕ → List ℕ → List ℕ → List ℕ

@@ -3,6 +3,7 @@
 use mathlib.Core.Path.{◌≡◌, sym, ap, ◌∙◌}
 use mathlib.Core.Bool.{Bool, true, false, and-false}
 use mathlib.Core.List.{List}
+use mathlib.Core.Logic.{◌⊎◌, ⊎_elim}
 use Prim.Native.Nat.{ℕ, ◌+◌, ◌-◌, ◌*◌, ◌≤◌, ◌<◌}
 use native.Mathlib.Omega.{arith}
 use borrow.Author.Tests.{le-leb, lt-leb}
@@ -42,14 +43,19 @@ module _ (transient wide : Bool) (norms : List ℕ) (budget : ℕ) where
   unfolding shares_of
   shares_yes t h = rw (t, le-leb budget 2560 h)
 
-  pub shares_norm : in_range norms 44 ≡ false
+  shares_norm : in_range norms 44 ≡ false
       → ◌≡◌ {A = Shares} (record { reply = out_of_range; rates = replicate 44 0; left = 0; rounds = 0 }) (shares_of transient wide norms budget)
   unfolding shares_of
   shares_norm t = rw t
 
-  pub shares_budget : 2560 < budget → ◌≡◌ {A = Shares} (record { reply = out_of_range; rates = replicate 44 0; left = 0; rounds = 0 }) (shares_of transient wide norms budget)
+  shares_budget : 2560 < budget → ◌≡◌ {A = Shares} (record { reply = out_of_range; rates = replicate 44 0; left = 0; rounds = 0 }) (shares_of transient wide norms budget)
   unfolding shares_of
   shares_budget h = rw (lt-leb budget 2560 h, and-false (in_range norms 44))
+
+  -- refused for a budget over 2,560 or an index over 39
+  pub shares_no : {passes : Bool} {reply : ℕ} → passes ≡ in_range norms 44 → ((passes ≡ true) × (2560 < budget)) ⊎ (passes ≡ false) → reply ≡ out_of_range
+      → ◌≡◌ {A = Shares} (record { reply = reply; rates = replicate 44 0; left = 0; rounds = 0 }) (shares_of transient wide norms budget)
+  shares_no e w r = rw r (⊎_elim (λ h. shares_budget h.1) (λ h. shares_norm (sym e ∙ h)) w)
 
   pub rates_length : length (rates_of transient wide norms budget) ≡ 44
   unfolding rates_of rates

@@ -4,4 +4,4 @@ use Rattle.bits.proofs.read_bits.Goals as goal
 
 pub returns : goal.returns
 returns c =
-    window_read c.args.s.now c.args.place _ c.width-n.ensures c.window-w.ensures
+    window_read c.args.s.now c.args.place _ c.min-n.ensures c.window-w.ensures

@@ -1,15 +1,16 @@
 -- `bits::window` meets its contract, by the law of three bytes. Assumes nothing.
-use mathlib.Core.Path.{refl}
-use Prim.Native.Nat.{◌+◌, ◌<◌}
-use lib.ListN.{get_or}
+use Rattle.std.proofs.Common.{◌+◌, arith}
 use Rattle.bits.proofs.Laws.Views.{val_window}
 use Rattle.bits.proofs.window.Goals as goal
 
 pub returns-then-i-s : goal.returns-then-i-s
 returns-then-i-s c =
-    let small : (get_or c.args.s.now c.args.i 0 < 256) × (get_or c.args.s.now (c.args.i + 1) 0 < 256) × (get_or c.args.s.now (c.args.i + 2) 0 < 256) = let f = c.shared_slice_known-1.given in
-    ((f c.args.i).fits, (f (c.args.i + 1)).fits, (f (c.args.i + 2)).fits) in
-    let b = small in val_window _ c.args.i (refl, b.0) (refl, b.1) (refl, b.2)
+    let i = c.args.i in
+    let fit = c.type_inv.s in
+    val_window _ i
+    (c.from.ensures, omega (arith, (fit i).fits))
+    (c.from-then-i-s.ensures, omega (arith, (fit (i + 1)).fits))
+    (c.from-then-i-s-2.ensures, omega (arith, (fit (i + 2)).fits))
 
 pub returns : goal.returns
 returns c =

@@ -17,8 +17,11 @@ use Rattle.frame.specs.Answers.{read_answer, reading_of, stopped_at}
 use Rattle.frame.specs.declared.Reading.{Reading}
 use Rattle.recording.specs.Walk.{passes, stored_at}
 use Rattle.recording.proofs.Laws.Reads.{lent}
-use Rattle.recording.specs.Blocks.{block_step, passing_of}
-use Rattle.recording.specs.declared.answer.Passing.{Passing}
+use Rattle.recording.specs.Blocks.{block_step}
+use Rattle.recording.specs.Told.{step_reply, told}
+use Rattle.std.specs.Prelude.{Result, Ok, Err}
+use Rattle.ground.specs.Numbered.{reply_of}
+use Rattle.ground.specs.declared.replies.Reply.{Reply}
 use Rattle.recording.proofs.Laws.Blocks.{block_told}
 use Rattle.frames.specs.Places.{size_at, place_of}
 use Rattle.frames.proofs.Laws.Frames.{placed}
@@ -30,24 +33,30 @@ use Rattle.frames.proofs.Laws.Rooms.{Roomy, rooms_told}
 
 -- ---- the reply
 
+step_told : (r : Result ℕ Reply) → reply_of r ≡ step_reply (told r)
+step_told (Ok n) = refl
+step_told (Err x) = refl
+
 module _ (s : List ℕ) (n codes tails : ℕ) where
   pub reply_early : {x : ℕ} → x ≡ first (room_causes n codes tails) → (x ≡ 0 → ⊥) → x ≡ block_reply s n codes tails
   unfolding block_causes
   reply_early e h = front_first _ _ e h
 
   -- behind the rooms the frames decide
-  pub reply_frames : {x : ℕ} → x ≡ first (room_causes n codes tails) → x ≡ 0 → (p : Passing) → p ≡ passing_of (block_step n s)
-      → p.reply ≡ block_reply s n codes tails
+  pub reply_step : {x : ℕ} → x ≡ first (room_causes n codes tails) → x ≡ 0 → step_reply (block_step n s) ≡ block_reply s n codes tails
   unfolding block_causes room_causes
-  reply_frames e z p q =
-      back_first (room_causes n codes tails) _ tt (sym e ∙ z) (ap (λ (y : Passing). y.reply) q ∙ sym (said_first (passing_of (block_step n s)).reply))
+  reply_step e z = back_first (room_causes n codes tails) _ tt (sym e ∙ z) (sym (said_first (step_reply (block_step n s))))
+
+  pub reply_frames : {x : ℕ} → x ≡ first (room_causes n codes tails) → x ≡ 0 → (r : Result ℕ Reply) → told r ≡ block_step n s
+      → reply_of r ≡ block_reply s n codes tails
+  reply_frames e z r q = step_told r ∙ ap step_reply q ∙ reply_step e z
 
   -- what a reply of 0 tells
-  pub reply_told : block_reply s n codes tails ≡ 0 → (first (room_causes n codes tails) ≡ 0) × ((passing_of (block_step n s)).reply ≡ 0)
+  pub reply_told : block_reply s n codes tails ≡ 0 → (first (room_causes n codes tails) ≡ 0) × (step_reply (block_step n s) ≡ 0)
   unfolding block_causes room_causes
   reply_told z =
-      let b = both_first (room_causes n codes tails) (said (passing_of (block_step n s)).reply ∷ []) tt z in
-      (b.0, sym (said_first (passing_of (block_step n s)).reply) ∙ b.1)
+      let b = both_first (room_causes n codes tails) (said (step_reply (block_step n s)) ∷ []) tt z in
+      (b.0, sym (said_first (step_reply (block_step n s))) ∙ b.1)
 
 -- a block that is read has its rooms
 pub reply_rooms : (s : List ℕ) {n codes tails : ℕ} → block_reply s n codes tails ≡ 0 → Roomy n codes tails
@@ -110,15 +119,15 @@ module _ {src : List ℕ} {n : ℕ} {codes₀ tails₀ codes tails : List ℕ} {
         }
 
 -- no channel is left
-pub taken_all : {src : List ℕ} {n : ℕ} {codes₀ tails₀ codes tails : List ℕ} {frames : List Reading} {at c : ℕ} {x : Reading}
-    → Taken src n codes₀ tails₀ (replicate 8 x) codes tails frames at c → n ≤ c → n ≤ 8 → x ≡ stopped_at 0 0
+pub taken_all : {src : List ℕ} {n : ℕ} {codes₀ tails₀ codes tails : List ℕ} {frames : List Reading} {at c : ℕ}
+    → Taken src n codes₀ tails₀ (replicate 8 (stopped_at 0 0)) codes tails frames at c → n ≤ c → n ≤ 8
     → (◌≡◌ {A = Block} (record { reply = 0; next = at; frames = frames }) (block_of src n)) × (codes ≡ codes_of src n codes₀) × (tails ≡ tails_of src n tails₀)
-taken_all {src} {n} {codes₀} {tails₀} {codes} {tails} {frames} {at} {c} {x} p h l q =
+taken_all {src} {n} {codes₀} {tails₀} {codes} {tails} {frames} {at} {c} p h l =
     let e : c ≡ n = omega (arith, p.few) in
     let f : ℕ → Reading = λ k. reading_of (channel_at src k) in
     let o : frames ≡ table n f ++ replicate (8 - n) (stopped_at 0 0) =
-    p.readings.same ∙ ap (λ (k : ℕ). table k f ++ drop k (replicate 8 x)) e
-    ∙ ap (λ (y : List Reading). table n f ++ y) (drop_same n 8 x l ∙ ap (replicate (8 - n)) q) in (
+    p.readings.same ∙ ap (λ (k : ℕ). table k f ++ drop k (replicate 8 (stopped_at 0 0))) e
+    ∙ ap (λ (y : List Reading). table n f ++ y) (drop_same n 8 (stopped_at 0 0) l) in (
       ap₂ (λ (k : ℕ) (y : List Reading). let b : Block = record { reply = 0; next = k; frames = y } in b) (p.place ∙ ap (place_of src) e) o,
       p.numbers.same ∙ ap (λ (k : ℕ). codes_of src k codes₀) e,
       p.bytes.same ∙ ap (λ (k : ℕ). tails_of src k tails₀) e,

@@ -31,4 +31,4 @@ loop-c-preserved c =
 
 pub returns : goal.returns
 returns c =
-    taken_all c.loop-c.invariant (omega arith) c.requires.0 c.no_reading-none.ensures
+    taken_all c.loop-c.invariant (omega arith) c.requires.0

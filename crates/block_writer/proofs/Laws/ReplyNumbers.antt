@@ -13,7 +13,8 @@ use Rattle.ground.proofs.Laws.Refusals.{numbers, first_number, numbers_append}
 use Rattle.ground.proofs.Laws.PrintedTables.{every, every_at}
 use Rattle.frame.specs.declared.Record.{Record}
 use Rattle.recording.specs.Walk.{Step, stops, passes}
-use Rattle.recording.specs.Blocks.{block_step, passing_of}
+use Rattle.recording.specs.Blocks.{block_step}
+use Rattle.recording.specs.Told.{step_reply}
 use Rattle.recording.proofs.Laws.Blocks.{block_stops}
 use Rattle.writer.specs.Writes.{write_causes}
 use Rattle.frames.specs.Rooms.{room_causes}
@@ -31,10 +32,10 @@ module _ (f : ℕ → Bool) (eight : T (every (λ (k x : ℕ). f k) 0 (replicate
   unfolding reading.block_causes
   read_numbers s n codes tails k =
       first_number f (reading.block_causes s n codes tails) (below 0 (omega arith))
-      (numbers_append f (room_causes n codes tails) (said (passing_of (block_step n s)).reply ∷ []) k
-      (T_and (f (passing_of (block_step n s)).reply) true (frames (block_step n s) refl) tt))
+      (numbers_append f (room_causes n codes tails) (said (step_reply (block_step n s)) ∷ []) k
+      (T_and (f (step_reply (block_step n s))) true (frames (block_step n s) refl) tt))
     where
-      frames : (o : Step) → block_step n s ≡ o → T (f (passing_of o).reply)
+      frames : (o : Step) → block_step n s ≡ o → T (f (step_reply o))
       frames (stops x) e = below x (omega (arith, (block_stops n s x e).1))
       frames (passes k) e = below 0 (omega arith)
 

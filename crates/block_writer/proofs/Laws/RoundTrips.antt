@@ -2,12 +2,12 @@
 -- codes and tails.
 -- Assumes nothing.
 use mathlib.Core.Path.{◌≡◌, refl, sym, ap, ap₂, ◌∙◌, subst}
-use mathlib.Core.Bool.{Bool, true, false, cond}
+use mathlib.Core.Bool.{false, cond}
 use mathlib.Core.List.{List, [], ◌∷◌, ◌++◌, append_assoc, append-nil, map}
 use Prim.Native.Nat.{ℕ, zero, suc, ◌+◌, ◌-◌, ◌*◌, ◌/◌, ◌≤◌, ◌<◌}
 use native.Mathlib.Nat.{add-zero, zero-mul, suc-mul}
 use native.Mathlib.Omega.{arith}
-use lib.Dec.{eqb, ltb}
+use lib.Dec.{ltb}
 use lib.ListN.{length, get_or, take, drop, replicate, length-append, length-drop, length-map, take-append-drop, get_or-append, get_or-map}
 use lib.Seq.{take_at, drop_at, drop-length, take_all, length-take-le}
 use borrow.Author.Tests.{le-ltb, ltb-true, ltb-false}
@@ -46,7 +46,8 @@ use Rattle.recording.specs.Walk.{Step, stops, passes, stored_at}
 use Rattle.recording.proofs.Laws.Walk.{stored_started}
 use Rattle.recording.specs.Frames.{Stored, bare, full, Frames}
 use Rattle.recording.proofs.Laws.Frames.{stored_front, bare_says}
-use Rattle.recording.specs.Blocks.{block_step, passing_of}
+use Rattle.recording.specs.Blocks.{block_step}
+use Rattle.recording.specs.Told.{step_reply}
 use Rattle.recording.proofs.Laws.Blocks.{block_front, block_told, block_stops}
 use Rattle.frames.specs.Places.{size_at, place_of, frame_at, zeroed}
 use Rattle.frames.proofs.Laws.Frames.{placed, frame_stored, frame_in, frames_made, frames_back}
@@ -61,13 +62,14 @@ use Rattle.writer.proofs.Laws.WriteBack.{answer_sound}
 use Rattle.writer.proofs.Laws.ReadBack as readback
 use Rattle.block_reader.specs.Reading as reading
 use Rattle.block_reader.specs.Reading.{channel_at, block_of, codes_of, tails_of}
-use Rattle.block_writer.specs.ReadBack.{read_again, reading_back, codes_back, tails_back}
+use Rattle.block_writer.specs.ReadBack.{read_again, given_again, reading_back, codes_back, tails_back}
 use Rattle.block_writer.specs.Writing as writing
-use Rattle.block_writer.specs.Writing.{past_records, record_at, empty_at, frame_causes, frame_of, causes_at, bytes_at, block_bytes}
+use Rattle.std.specs.Prelude.{Option, None, Some}
+use Rattle.block_writer.specs.Writing.{given_at, record_of, is_empty, record_at, empty_at, frame_causes, frame_of, causes_at, bytes_at, block_bytes}
 use Rattle.block_reader.specs.declared.Block.{Block}
 use Rattle.block_writer.specs.declared.Records.{Records}
 use Rattle.frames.proofs.Laws.Rooms.{Roomy, rooms_enough}
-use Rattle.block_reader.proofs.Laws.Reading.{reply_rooms, reply_frames, reply_told, block_bytes_lem}
+use Rattle.block_reader.proofs.Laws.Reading.{reply_rooms, reply_step, reply_told, block_bytes_lem}
 use Rattle.block_writer.proofs.Laws.Writing as written
 
 -- ---- runs of one length are the parts of their list
@@ -138,19 +140,16 @@ module _ (f : List ℕ) (a : Stored f) where
 -- ---- A frame that was read into its parts is written back
 
 -- what is written has no cause of refusal, and is the frame with R zero
-abbrev Returns : List ℕ → Record → Bool → List ℕ → List ℕ → Type 0
-Returns f r w cs ts = (first (frame_causes r w cs ts) ≡ 0) × (frame_of r w cs ts ≡ zeroed f)
+abbrev Returns : List ℕ → Option Record → List ℕ → List ℕ → Type 0
+Returns f g cs ts = (first (frame_causes g cs ts) ≡ 0) × (frame_of g cs ts ≡ zeroed f)
 
 abbrev Returned : List ℕ → List ℕ → List ℕ → Outcome → Type 0
-Returned f cs ts o = Returns f (reading_of o).«record» (eqb (reading_of o).reply no_data) (frame.codes_after cs o) (frame.tail_after ts o)
+Returned f cs ts o = Returns f (given_again (reading_of o)) (frame.codes_after cs o) (frame.tail_after ts o)
 
-returns_as : (f : List ℕ) (r r' : Record) (w w' : Bool) (cs cs' ts ts' : List ℕ) → r ≡ r' → w ≡ w' → cs ≡ cs' → ts ≡ ts' → Returns f r' w' cs' ts'
-    → Returns f r w cs ts
-returns_as f r r' w w' cs cs' ts ts' er ew ec et h =
-    subst (λ (x : Record). Returns f x w cs ts) (sym er)
-    (subst (λ (x : Bool). Returns f r' x cs ts) (sym ew)
-    (subst (λ (x : List ℕ). Returns f r' w' x ts) (sym ec)
-    (subst (λ (x : List ℕ). Returns f r' w' cs' x) (sym et) h)))
+returns_as : (f : List ℕ) (g g' : Option Record) (cs cs' ts ts' : List ℕ) → g ≡ g' → cs ≡ cs' → ts ≡ ts' → Returns f g' cs' ts' → Returns f g cs ts
+returns_as f g g' cs cs' ts ts' eg ec et h =
+    subst (λ (x : Option Record). Returns f x cs ts) (sym eg)
+    (subst (λ (x : List ℕ). Returns f g' x ts) (sym ec) (subst (λ (x : List ℕ). Returns f g' cs' x) (sym et) h))
 
 -- a byte that says no data is 0 but for R
 bare_byte : (b : ℕ) → b < 256 → prefix_byte b ≡ NoData → zero_r b ≡ 0
@@ -191,13 +190,9 @@ module _ (f cs ts : List ℕ) (h : Bytes f) (lc : length cs ≡ 800) (lt : lengt
 
 -- ---- A block that was read is written back
 
--- the records that were read, and which frames were empty
+-- the records that were read; none of an empty frame
 abbrev pub records_of : List ℕ → ℕ → Records
-records_of s n =
-    record {
-      at = map (λ (r : Reading). r.«record») (block_of s n).frames;
-      empty = map (λ (r : Reading). eqb r.reply no_data) (block_of s n).frames;
-    }
+records_of s n = record { at = map given_again (block_of s n).frames }
 
 module _ (s : List ℕ) (n c : ℕ) (h : c < n) where
   reading_at : (d : Reading) → get_or (block_of s n).frames c d ≡ reading_of (channel_at s c)
@@ -206,25 +201,21 @@ module _ (s : List ℕ) (n c : ℕ) (h : c < n) where
       get_or-append (table n g) (replicate (8 - n) (stopped_at 0 0)) d c (omega (arith, length_from g n 0)) ∙ get_d_table g n d c h
 
   past : Reading
-  past = record { reply = 0; next = 0; «record» = past_records }
+  past = stopped_at no_data 0
 
-  record_at_lem : record_at (records_of s n) c ≡ (reading_of (channel_at s c)).«record»
+  given_at_lem : given_at (records_of s n) c ≡ given_again (reading_of (channel_at s c))
   unfolding past
-  record_at_lem = get_or-map (λ (r : Reading). r.«record») (block_of s n).frames c past ∙ ap (λ (r : Reading). r.«record») (reading_at past)
-
-  empty_at_lem : empty_at (records_of s n) c ≡ eqb (reading_of (channel_at s c)).reply no_data
-  unfolding past
-  empty_at_lem = get_or-map (λ (r : Reading). eqb r.reply no_data) (block_of s n).frames c past ∙ ap (λ (r : Reading). eqb r.reply no_data) (reading_at past)
+  given_at_lem = get_or-map given_again (block_of s n).frames c past ∙ ap given_again (reading_at past)
 
 -- a block that is read passes
 passed_step : (s : List ℕ) (n codes tails : ℕ) → reading.block_reply s n codes tails ≡ 0 → block_step n s ≡ passes (place_of s n)
 passed_step s n codes tails z = go (block_step n s) refl
   where
-    told : (passing_of (block_step n s)).reply ≡ 0
+    told : step_reply (block_step n s) ≡ 0
     told = (reply_told s n codes tails z).1
 
     go : (o : Step) → block_step n s ≡ o → block_step n s ≡ passes (place_of s n)
-    go (stops x) e = absurd (let q : x ≡ 0 = sym (ap (λ (y : Step). (passing_of y).reply) e) ∙ told in omega (arith, q, (block_stops n s x e).0))
+    go (stops x) e = absurd (let q : x ≡ 0 = sym (ap step_reply e) ∙ told in omega (arith, q, (block_stops n s x e).0))
     go (passes k) e = e ∙ ap passes (sym (block_bytes_lem s n k e))
 
 module _ (s : List ℕ) (n codes tails : ℕ) (z : reading.block_reply s n codes tails ≡ 0) where
@@ -290,7 +281,7 @@ module _ (s : List ℕ) (n : ℕ) (codes tails : List ℕ) (b : Bytes s) (z : re
 
   -- channel c's frame, written from what was read
   frame_back : (c : ℕ) → c < n
-      → Returns (frame_at s c) (record_at (records_of s n) c) (empty_at (records_of s n) c) (part 800 (codes_of s n codes) c) (part 320 (tails_of s n tails) c)
+      → Returns (frame_at s c) (given_at (records_of s n) c) (part 800 (codes_of s n codes) c) (part 320 (tails_of s n tails) c)
   unfolding codes_at tail_at
   frame_back c h =
       let f = frame_at s c in
@@ -298,7 +289,7 @@ module _ (s : List ℕ) (n : ℕ) (codes tails : List ℕ) (b : Bytes s) (z : re
       let w : Returned f (part 800 codes c) (part 320 tails c) (channel_at s c) =
       subst (Returned f (part 800 codes c) (part 320 tails c)) (sym (channel_stored s c (stored c h)))
       (frame_returned f _ _ (bytes_take (size_at (drop k s)) (drop k s) (bytes_drop k s b)) (lent_codes c h) (lent_tail c h) (stored c h)) in
-      returns_as f _ _ _ _ _ _ _ _ (record_at_lem s n c h) (empty_at_lem s n c h)
+      returns_as f _ _ _ _ _ _ (given_at_lem s n c h)
       (part_runs 800 codes_at n c (drop (n * 800) codes) codes_800 h)
       (part_runs 320 tail_at n c (drop (n * 320) tails) tail_320 h) w
 
@@ -340,11 +331,11 @@ module _ (s : List ℕ) (n : ℕ) (codes tails : List ℕ) (b : Bytes s) (z : re
 -- ---- A frame that was written is read back
 
 -- it is a stored frame; it reads as its record, and the lent parts then hold its codes and its tail, or for an empty frame what they held
-record Reads (r : Record) (w : Bool) (cs ts codes tail : List ℕ) : Type 0 where
-  stored : Stored (frame_of r w cs ts)
-  reading : reading_of (stored_at (frame_of r w cs ts)) ≡ read_again r w
-  numbers : frame.codes_after codes (stored_at (frame_of r w cs ts)) ≡ cond w codes cs
-  bytes : frame.tail_after tail (stored_at (frame_of r w cs ts)) ≡ cond w tail ts
+record Reads (g : Option Record) (cs ts codes tail : List ℕ) : Type 0 where
+  stored : Stored (frame_of g cs ts)
+  reading : reading_of (stored_at (frame_of g cs ts)) ≡ read_again g
+  numbers : frame.codes_after codes (stored_at (frame_of g cs ts)) ≡ cond (is_empty g) codes cs
+  bytes : frame.tail_after tail (stored_at (frame_of g cs ts)) ≡ cond (is_empty g) tail ts
 
 long_for : (r : Record) (cs ts : List ℕ) → length (bytes_for r cs ts) ≡ mode_bytes r.mode + 1
 unfolding bytes_for
@@ -358,10 +349,10 @@ replaced : (k : ℕ) (a b : List ℕ) → length a ≡ k → length b ≡ k → 
 replaced k a b la lb =
     ap₂ (λ (x y : List ℕ). x ++ y) (take_all k a (omega arith)) (ap (λ (j : ℕ). drop j b) (sym lb) ∙ drop-length b) ∙ append-nil a
 
-module _ (r : Record) (cs ts codes tail : List ℕ) (lc : length cs ≡ 800) (lt : length ts ≡ 320) (mc : length codes ≡ 800) (mt : length tail ≡ 320) where
-  full_reads : write_reply r cs ts 321 ≡ 0 → length r.norms ≡ 44 → Bytes ts → Reads r false cs ts codes tail
+module _ (cs ts codes tail : List ℕ) (lc : length cs ≡ 800) (lt : length ts ≡ 320) (mc : length codes ≡ 800) (mt : length tail ≡ 320) where
+  full_reads : (r : Record) → write_reply r cs ts 321 ≡ 0 → length r.norms ≡ 44 → Bytes ts → Reads (Some r) cs ts codes tail
   unfolding stored_at
-  full_reads z l b =
+  full_reads r z l b =
       let f = bytes_for r cs ts in
       let P = passed r cs ts 321 z in
       let n : f ++ [] ≡ f = append-nil f in
@@ -376,15 +367,16 @@ module _ (r : Record) (cs ts codes tail : List ℕ) (lc : length cs ≡ 800) (lt
         bytes = ap (frame.tail_after tail) q ∙ w.2 ∙ replaced 320 ts tail lt mt;
       }
 
-  frame_reads : (w : Bool) → first (frame_causes r w cs ts) ≡ 0 → (w ≡ false → (length r.norms ≡ 44) × Bytes ts) → Reads r w cs ts codes tail
-  frame_reads true z h =
+  frame_reads : (g : Option Record) → first (frame_causes g cs ts) ≡ 0 → (is_empty g ≡ false → (length (record_of g).norms ≡ 44) × Bytes ts)
+      → Reads g cs ts codes tail
+  frame_reads None z h =
       record {
         stored = bare empty_stored refl;
         reading = ap reading_of empty_stored;
         numbers = ap (frame.codes_after codes) empty_stored;
         bytes = ap (frame.tail_after tail) empty_stored;
       }
-  frame_reads false z h = full_reads z (h refl).0 (h refl).1
+  frame_reads (Some r) z h = full_reads r z (h refl).0 (h refl).1
 
 -- ---- Records that were written are read back
 
@@ -403,15 +395,15 @@ module _ (r : Records) (n : ℕ) (cs ts out codes tails : List ℕ) (z : writing
   s : List ℕ
   s = writing.out_after 0 r n cs ts out
 
-  reads : (c : ℕ) → c < n → Reads (record_at r c) (empty_at r c) (part 800 cs c) (part 320 ts c) (part 800 codes c) (part 320 tails c)
+  reads : (c : ℕ) → c < n → Reads (given_at r c) (part 800 cs c) (part 320 ts c) (part 800 codes c) (part 320 tails c)
   reads c h =
       let t = written.block_told r n cs ts (length out) z in
-      frame_reads (record_at r c) (part 800 cs c) (part 320 ts c) (part 800 codes c) (part 320 tails c)
+      frame_reads (part 800 cs c) (part 320 ts c) (part 800 codes c) (part 320 tails c)
       (length_part 800 cs c (omega (arith, t.rooms.numbers)))
       (length_part 320 ts c (omega (arith, t.rooms.bytes)))
       (length_part 800 codes c (omega arith))
       (length_part 320 tails c (omega arith))
-      (empty_at r c) (t.frames c h) (k c h)
+      (given_at r c) (t.frames c h) (k c h)
 
   laid_frames : Frames n (block_bytes r n cs ts)
   laid_frames = frames_made (bytes_at r cs ts) n (λ c h. (reads c h).stored)
@@ -431,8 +423,8 @@ module _ (r : Records) (n : ℕ) (cs ts out codes tails : List ℕ) (z : writing
       let Q : Roomy n (length codes) (length tails) = record { some = R.some; few = R.few; numbers = hc; bytes = ht } in
       record {
         reply =
-            sym (reply_frames s n (length codes) (length tails) refl (rooms_enough Q) (passing_of (block_step n s)) refl)
-            ∙ ap (λ (x : Step). (passing_of x).reply) (block_front rest laid_frames);
+            sym (reply_step s n (length codes) (length tails) refl (rooms_enough Q))
+            ∙ ap step_reply (block_front rest laid_frames);
         block =
             ap₂ (λ (i : ℕ) (l : List Reading). let b : Block = record { reply = done; next = i; frames = l ++ replicate (8 - n) (stopped_at 0 0) } in b)
             (placed rest laid_frames)

@@ -1,25 +1,27 @@
 -- The turns of writing a block: the frames' causes, their bytes, and a lent output laid frame by frame.
 -- Assumes nothing.
 use mathlib.Core.Path.{◌≡◌, refl, sym, ap, ap₂, ◌∙◌}
-use mathlib.Core.Bool.{Bool, true, false}
+use mathlib.Core.Bool.{Bool, true}
 use mathlib.Core.List.{List, [], ◌∷◌, ◌++◌, append_assoc, append-nil}
-use Prim.Native.Nat.{ℕ, suc, ◌+◌, ◌-◌, ◌*◌, ◌≤◌, ◌<◌}
+use Prim.Native.Nat.{ℕ, zero, suc, ◌+◌, ◌-◌, ◌≤◌, ◌<◌}
 use native.Mathlib.Numerals.{add-one}
 use native.Mathlib.Omega.{arith}
 use lib.Dec.{T, ltb}
-use lib.ListN.{length, drop, take, length-append, length-drop}
-use lib.Seq.{take_at, drop_at, drop-drop, take_all, drop-length}
+use lib.ListN.{length, drop, take, get_or, length-append, length-drop}
+use lib.Seq.{take_at, drop_at, drop-drop, take_all, drop-length, length-take-le}
 use borrow.Author.Tests.{eq-eqb, ne_eqb, ltb-true, ltb-false}
 use Rattle.ground.proofs.Laws.Cases.{by_bool}
 use Rattle.ground.proofs.Laws.Cases.{T_and}
 use Rattle.ground.specs.Refusals.{◌gives◌, first, not_done}
-use Rattle.ground.proofs.Laws.Refusals.{numbers, by_rows, no_row, first_none, front_first, back_first, neither_first, both_first, numbers_append}
+use Rattle.ground.proofs.Laws.Refusals.{numbers, by_rows, first_none, front_first, back_first, neither_first, both_first, numbers_append}
 use Rattle.ground.proofs.Laws.Refusals.{runs_numbers, runs_told}
 use Rattle.ground.specs.Replies.{done, short_room}
 use Rattle.ground.specs.Runs.{runs, part}
 use Rattle.ground.proofs.Laws.Runs.{runs_more, length_runs, backed}
-use Rattle.ground.specs.Sums.{sum_to}
-use Rattle.ground.proofs.Laws.Sums.{sum_more, sum_same, sum_grows}
+use Rattle.std.specs.Prelude.{Option, None, Some, sum_by}
+use Rattle.std.proofs.lemmas.List.{get_or-take}
+use Rattle.std.proofs.lemmas.List.Sums.{sum_by_more}
+use Rattle.ground.proofs.Laws.Sums.{sum_more, sum_grows}
 use Rattle.bits.proofs.Laws.Bytes.{length_bytes_lem}
 use Rattle.prefix.specs.Sizes.{mode_bytes}
 use Rattle.prefix.proofs.Laws.Sizes.{mode_bounds, mode_past}
@@ -31,7 +33,7 @@ use Rattle.writer.specs.Writes as writer
 use Rattle.writer.specs.Writes.{write_causes, write_reply, writing_of, bytes_for}
 use Rattle.writer.proofs.Laws.Writes.{write_numbered, reply_roomy}
 use Rattle.writer.specs.declared.Writing.{Writing}
-use Rattle.block_writer.specs.Writing.{record_at, empty_at, frame_causes, frame_of, causes_at, bytes_at, block_bytes, block_causes, block_reply}
+use Rattle.block_writer.specs.Writing.{given_at, frame_causes, frame_of, causes_at, bytes_at, block_bytes, block_causes, block_reply}
 use Rattle.block_writer.specs.Writing.{block_answer, out_after}
 use Rattle.block_writer.specs.Inner.{frame_bytes}
 use Rattle.frames.specs.Rooms.{room_causes}
@@ -47,81 +49,74 @@ length_full : (r : Record) (cs ts : List ℕ) → length (bytes_for r cs ts) ≡
 unfolding bytes_for
 length_full r cs ts = ap suc (length_bytes_lem (mode_bytes r.mode) ((frame (total r)).write (writer.frame_of r cs ts))) ∙ sym (add-one (mode_bytes r.mode))
 
-pub length_frame : (r : Record) (e : Bool) (cs ts : List ℕ) → length (frame_of r e cs ts) ≡ frame_bytes r e
-length_frame r true cs ts = refl
-length_frame r false cs ts = length_full r cs ts
+pub length_frame : (g : Option Record) (cs ts : List ℕ) → length (frame_of g cs ts) ≡ frame_bytes g
+length_frame None cs ts = refl
+length_frame (Some r) cs ts = length_full r cs ts
 
--- a frame that is not an empty one
-module _ (r : Record) {e : Bool} (f : e ≡ false) where
-  pub full_reply : (cs ts : List ℕ) {x : ℕ} → x ≡ write_reply r cs ts 321 → x ≡ first (frame_causes r e cs ts)
-  full_reply cs ts q = rw f q
-
-  pub full_bytes : {n : ℕ} → n ≡ mode_bytes r.mode → (n + 1 ≡ frame_bytes r e) × (n + 1 ≤ 321)
-  full_bytes q = (rw f (ap (λ (k : ℕ). k + 1) q), omega (arith, q, mode_most r.mode))
-
-pub bare_reply : (r : Record) {e : Bool} (cs ts : List ℕ) → e ≡ true → done ≡ first (frame_causes r e cs ts)
-bare_reply r cs ts f = rw f no_row
+pub full_bytes : (r : Record) {n : ℕ} → n ≡ mode_bytes r.mode → n + 1 ≤ 321
+full_bytes r q = omega (arith, q, mode_most r.mode)
 
 -- the room of the longest frame is as good as any that holds this one
-module _ (r : Record) (cs ts out : List ℕ) (w : Writing) (ys : List ℕ) where
-  put_full : write_reply r cs ts 321 ≡ 0 → mode_bytes r.mode + 1 ≤ length out
-      → w ≡ writing_of (write_reply r cs ts (length out)) r.mode → ys ≡ writer.out_after (write_reply r cs ts (length out)) r cs ts out
-      → (w.next ≡ mode_bytes r.mode + 1) × (ys ≡ bytes_for r cs ts ++ drop (mode_bytes r.mode + 1) out)
-  put_full z h ew ey =
-      let q : write_reply r cs ts (length out) ≡ 0 = sym (reply_roomy r cs ts (length out) (omega arith)) ∙ z in
-      (ap (λ (x : Writing). x.next) ew ∙ ap (λ (x : ℕ). (writing_of x r.mode).next) q, ey ∙ ap (λ (x : ℕ). writer.out_after x r cs ts out) q)
-
-  pub full_put : (e : Bool) → e ≡ false → first (frame_causes r e cs ts) ≡ 0 → frame_bytes r e ≤ length out
-      → w ≡ writing_of (write_reply r cs ts (length out)) r.mode → ys ≡ writer.out_after (write_reply r cs ts (length out)) r cs ts out
-      → (w.next ≡ frame_bytes r e) × (ys ≡ frame_of r e cs ts ++ drop (frame_bytes r e) out)
-  full_put e f z h ew ey = rw f (put_full (rw f at z) (rw f at h) ew ey)
+pub full_put : (r : Record) (cs ts out : List ℕ) (w : Writing) (ys : List ℕ) → write_reply r cs ts 321 ≡ 0 → mode_bytes r.mode + 1 ≤ length out
+    → w ≡ writing_of (write_reply r cs ts (length out)) r.mode → ys ≡ writer.out_after (write_reply r cs ts (length out)) r cs ts out
+    → (w.next ≡ mode_bytes r.mode + 1) × (ys ≡ bytes_for r cs ts ++ drop (mode_bytes r.mode + 1) out)
+full_put r cs ts out w ys z h ew ey =
+    let q : write_reply r cs ts (length out) ≡ 0 = sym (reply_roomy r cs ts (length out) (omega arith)) ∙ z in
+    (ap (λ (x : Writing). x.next) ew ∙ ap (λ (x : ℕ). (writing_of x r.mode).next) q, ey ∙ ap (λ (x : ℕ). writer.out_after x r cs ts out) q)
 
 bare_made : (out : List ℕ) → 1 ≤ length out → ((empty_reply (length out)).next ≡ 1) × (empty_after out ≡ 0 ∷ drop 1 out)
 unfolding empty_reply empty_after
 bare_made [] h = absurd (omega arith)
 bare_made (x ∷ out) h = (rw (ne_eqb (suc (length out)) 0 (λ z. omega arith)), refl)
 
-pub bare_put : (r : Record) (cs ts out : List ℕ) (w : Writing) (ys : List ℕ) (e : Bool) → e ≡ true → frame_bytes r e ≤ length out
-    → w ≡ empty_reply (length out) → ys ≡ empty_after out
-    → (w.next ≡ frame_bytes r e) × (ys ≡ frame_of r e cs ts ++ drop (frame_bytes r e) out)
-bare_put r cs ts out w ys e f h ew ey =
-    let m = bare_made out (rw f at h) in
-    rw f (ap (λ (x : Writing). x.next) ew ∙ m.0, ey ∙ m.1)
+pub bare_put : (out : List ℕ) (w : Writing) (ys : List ℕ) → 1 ≤ length out → w ≡ empty_reply (length out) → ys ≡ empty_after out
+    → (w.next ≡ 1) × (ys ≡ 0 ∷ drop 1 out)
+bare_put out w ys h ew ey = let m = bare_made out h in (ap (λ (x : Writing). x.next) ew ∙ m.0, ey ∙ m.1)
 
 -- ---- the causes, channel by channel
 
--- what is lent of the numbers and bytes is the channel's part
-pub part_reply : (r : Record) (e : Bool) (cs ts : List ℕ) (c m j : ℕ) {x : ℕ} → m ≡ 800 → j ≡ 320
-    → x ≡ first (frame_causes r e (take m (drop (c * 800) cs)) (take j (drop (c * 320) ts))) → x ≡ first (frame_causes r e (part 800 cs c) (part 320 ts c))
-part_reply r e cs ts c m j em ej q = q ∙ ap₂ (λ (k i : ℕ). first (frame_causes r e (take k (drop (c * 800) cs)) (take i (drop (c * 320) ts)))) em ej
+-- channel c of those that are looked at, of eight
+pub turn : (r : Records) (n c : ℕ) → length r.at ≡ 8 → n ≤ 8 → c < length (take n r.at) → (c < n) × (get_or (take n r.at) c None ≡ given_at r c)
+turn r n c e l h = let b : c < n = omega (arith, length-take-le n r.at (omega arith)) in (b, get_or-take n r.at c None b)
 
 -- what passes the number of each cause of a frame passes those of the block's frames
 frame_numbers : (f : ℕ → Bool) → ((r : Record) (cs ts : List ℕ) → T (numbers f (write_causes r cs ts 321)))
-    → (r : Record) (e : Bool) (cs ts : List ℕ) → T (numbers f (frame_causes r e cs ts))
-frame_numbers f h r true cs ts = tt
-frame_numbers f h r false cs ts = h r cs ts
+    → (g : Option Record) (cs ts : List ℕ) → T (numbers f (frame_causes g cs ts))
+frame_numbers f h None cs ts = tt
+frame_numbers f h (Some r) cs ts = h r cs ts
 
 module _ (r : Records) (cs ts : List ℕ) where
   frames_numbers : (f : ℕ → Bool) → ((r : Record) (cs ts : List ℕ) → T (numbers f (write_causes r cs ts 321))) → (n : ℕ)
       → T (numbers f (runs n (causes_at r cs ts)))
-  frames_numbers f h = runs_numbers (causes_at r cs ts) f (λ c. frame_numbers f h (record_at r c) (empty_at r c) (part 800 cs c) (part 320 ts c))
+  frames_numbers f h = runs_numbers (causes_at r cs ts) f (λ c. frame_numbers f h (given_at r c) (part 800 cs c) (part 320 ts c))
 
   pub numbered_at : (c : ℕ) → T (numbers not_done (causes_at r cs ts c))
-  numbered_at c = frame_numbers not_done write_numbered (record_at r c) (empty_at r c) (part 800 cs c) (part 320 ts c)
+  numbered_at c = frame_numbers not_done write_numbered (given_at r c) (part 800 cs c) (part 320 ts c)
 
   -- ---- the bytes
 
-  pub block_long : (n : ℕ) → length (block_bytes r n cs ts) ≡ sum_to (λ c. frame_bytes (record_at r c) (empty_at r c)) n
-  block_long n =
-      length_runs (bytes_at r cs ts) n
-      ∙ sum_same (λ c. length (bytes_at r cs ts c)) (λ c. frame_bytes (record_at r c) (empty_at r c)) n
-      (λ c h. length_frame (record_at r c) (empty_at r c) (part 800 cs c) (part 320 ts c))
+  -- as many as the frames have together
+  pub block_long : (n : ℕ) → n ≤ length r.at → length (block_bytes r n cs ts) ≡ sum_by frame_bytes (take n r.at)
+  unfolding runs
+  block_long zero h = refl
+  block_long (suc n) h =
+      length-append (block_bytes r n cs ts) (bytes_at r cs ts n)
+      ∙ ap₂ (λ (x y : ℕ). x + y) (block_long n (omega arith)) (length_frame (given_at r n) (part 800 cs n) (part 320 ts n))
+      ∙ sym (sum_by_more frame_bytes r.at n None (omega arith)) ∙ ap (λ (k : ℕ). sum_by frame_bytes (take k r.at)) (add-one n)
 
   -- each frame stands within the block
-  pub frame_inside : (c n : ℕ) → c < n → length (block_bytes r c cs ts) + frame_bytes (record_at r c) (empty_at r c) ≤ length (block_bytes r n cs ts)
+  pub frame_inside : (c n : ℕ) → c < n → length (block_bytes r c cs ts) + frame_bytes (given_at r c) ≤ length (block_bytes r n cs ts)
   frame_inside c n h =
-      let f : ℕ → ℕ = λ c. frame_bytes (record_at r c) (empty_at r c) in
-      omega (arith, block_long c, block_long n, sum_more f c, sum_grows f (c + 1) n (omega arith))
+      let f = bytes_at r cs ts in
+      let g : ℕ → ℕ = λ k. length (f k) in
+      omega (
+        arith,
+        length_runs f c,
+        length_runs f n,
+        length_frame (given_at r c) (part 800 cs c) (part 320 ts c),
+        sum_more g c,
+        sum_grows g (c + 1) n (omega arith),
+      )
 
 -- ---- the output: the frames below c stand at its front, up to a place, and the rest is as before
 
@@ -237,27 +232,22 @@ module _ (r : Records) (n : ℕ) (cs ts out : List ℕ) where
 
 module _ {r : Records} {n : ℕ} {cs ts : List ℕ} {out₀ out : List ℕ} {at c : ℕ}
     (q : Passing r n cs ts (length out₀)) (p : FramesLaid (bytes_at r cs ts) out₀ out at c) (h : c < n) where
-  fits : at + frame_bytes (record_at r c) (empty_at r c) ≤ length out₀
+  fits : at + frame_bytes (given_at r c) ≤ length out₀
   fits = omega (arith, p.place, q.out, frame_inside r cs ts c n h)
 
-  -- the next frame passes and has room
-  pub frame_ready : (m j : ℕ) → m ≡ 800 → j ≡ 320
-      → (first (frame_causes (record_at r c) (empty_at r c) (take m (drop (c * 800) cs)) (take j (drop (c * 320) ts))) ≡ 0)
-      × (frame_bytes (record_at r c) (empty_at r c) ≤ length (take (length out - at) (drop at out)))
-  frame_ready m j em ej = (
-    part_reply (record_at r c) (empty_at r c) cs ts c m j em ej refl ∙ q.frames c h,
-    omega (arith, ap length (laid_rest p), length-drop at out₀, fits),
-  )
+  module _ {g : Option Record} {numbers bytes : List ℕ} (eg : g ≡ given_at r c) (en : numbers ≡ part 800 cs c) (eb : bytes ≡ part 320 ts c) where
+    -- the next frame passes and has room
+    pub frame_ready : (first (frame_causes g numbers bytes) ≡ 0) × (frame_bytes g ≤ length (take (length out - at) (drop at out)))
+    frame_ready =
+        rw (eg, en, eb) (q.frames c h, omega (arith, ap length (laid_rest p), length-drop at out₀, fits))
 
-  -- and is laid
-  pub frame_laid : (m j k : ℕ) (ys : List ℕ) → m ≡ 800 → j ≡ 320 → k ≡ frame_bytes (record_at r c) (empty_at r c)
-      → ys ≡ frame_of (record_at r c) (empty_at r c) (take m (drop (c * 800) cs)) (take j (drop (c * 320) ts)) ++ drop (frame_bytes (record_at r c) (empty_at r c))
-      (take (length out - at) (drop at out))
-      → FramesLaid (bytes_at r cs ts) out₀ (backed out at (length out - at) ys) (at + k) (c + 1)
-  frame_laid m j k ys em ej ek ey =
-      let g = record_at r c in
-      let e = empty_at r c in
-      laid_more p k ys (length_frame g e (part 800 cs c) (part 320 ts c) ∙ sym ek) (omega (arith, ek, fits))
-      (ey
-      ∙ ap₂ (λ (x : List ℕ) (i : ℕ). frame_of g e (take m (drop (c * 800) cs)) (take j (drop (c * 320) ts)) ++ drop i x) (laid_rest p) (sym ek)
-      ∙ ap₂ (λ (x y : ℕ). frame_of g e (take x (drop (c * 800) cs)) (take y (drop (c * 320) ts)) ++ drop k (drop at out₀)) em ej)
+    -- and is laid
+    pub frame_laid : (k : ℕ) (ys : List ℕ) → k ≡ frame_bytes g
+        → ys ≡ frame_of g numbers bytes ++ drop (frame_bytes g) (take (length out - at) (drop at out))
+        → FramesLaid (bytes_at r cs ts) out₀ (backed out at (length out - at) ys) (at + k) (c + 1)
+    frame_laid k ys ek ey =
+        let e : k ≡ frame_bytes (given_at r c) = ek ∙ ap frame_bytes eg in
+        let f : frame_of g numbers bytes ≡ bytes_at r cs ts c = rw (eg, en, eb) refl in
+        laid_more p k ys (length_frame (given_at r c) (part 800 cs c) (part 320 ts c) ∙ sym e) (omega (arith, e, fits))
+        (ey ∙ ap₂ (λ (x : List ℕ) (i : ℕ). frame_of g numbers bytes ++ drop i x) (laid_rest p) (sym ek)
+        ∙ ap (λ (x : List ℕ). x ++ drop k (drop at out₀)) f)

@@ -2,12 +2,11 @@
 use Rattle.block_writer.proofs.Laws.Writing.{bare_put, full_put}
 use Rattle.block_writer.proofs.put_frame.Goals as goal
 
-pub returns-then-empty : goal.returns-then-empty
-returns-then-empty c =
-    bare_put c.args.r c.args.codes.now c.args.tail.now c.args.out.now _ _ c.args.empty (search) c.requires.1
-    c.write_empty-bare.ensures.0 c.write_empty-bare.ensures.1
+pub returns-in-None : goal.returns-in-None
+returns-in-None c =
+    rw c.in-None.is (bare_put c.args.out.now _ _ (rw c.in-None.is at c.requires.1) c.write_empty.ensures.0 c.write_empty.ensures.1)
 
-pub returns : goal.returns
-returns c =
-    full_put c.args.r c.args.codes.now c.args.tail.now c.args.out.now _ _ c.args.empty (search) c.requires.0 c.requires.1
-    c.write-full.ensures.0 c.write-full.ensures.1
+pub returns-in-Some : goal.returns-in-Some
+returns-in-Some c =
+    rw c.in-Some.is
+    (full_put _ _ _ c.args.out.now _ _ (rw c.in-Some.is at c.requires.0) (rw c.in-Some.is at c.requires.1) c.write.ensures.0 c.write.ensures.1)

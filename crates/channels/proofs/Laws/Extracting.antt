@@ -55,6 +55,10 @@ frame_part s at i k e q =
 pub frame_inside : (s : List ℕ) (at k : ℕ) → at ≤ length s → k ≡ size_at (drop at s) → at + k ≤ length s
 frame_inside s at k h q = omega (arith, size_inside (drop at s), length-drop at s)
 
+pub taken_inside : (s : List ℕ) (at : ℕ) {t : List ℕ} → at ≤ length s → t ≡ take (size_at (drop at s)) (drop at s) → at + length t ≤ length s
+taken_inside s at h e =
+    omega (arith, ap length e, length-take-le (size_at (drop at s)) (drop at s) (size_inside (drop at s)), frame_inside s at (size_at (drop at s)) h refl)
+
 -- fewer runs are not longer
 pub runs_under : (f : ℕ → List ℕ) (m n : ℕ) → m ≤ n → length (runs m f) ≤ length (runs n f)
 runs_under f m n h = omega (arith, length_runs f m, length_runs f n, sum_grows (λ k. length (f k)) m n h)
@@ -88,13 +92,13 @@ module _ (s : List ℕ) (n c : ℕ) where
   counting_none k at e =
       record { few = omega arith; at_frame = at_first at e; bytes = sym (ap length (runs_none (λ b. frame_at s (b * n + c)))); before = omega arith }
 
-  pub counting_more : {k at m b : ℕ} (z r : ℕ) → 1 ≤ n → Counting k at m b → b < k → z ≡ size_at (drop at s) → r ≡ place_from s at n
-      → Counting k r (m + z) (b + 1)
-  counting_more {k} {at} {m} {b} z r one C h ez er =
-      let p = C.at_frame.place in
-      let l : z ≡ length (frame_at s (b * n + c)) = ez ∙ ap (λ (q : ℕ). size_at (drop q s)) p ∙ sym (length_frame s (b * n + c)) in
+  pub counting_more : {k at m b : ℕ} (t : List ℕ) (r : ℕ) → 1 ≤ n → Counting k at m b → b < k → t ≡ take (size_at (drop at s)) (drop at s)
+      → r ≡ place_from s at n → Counting k r (m + length t) (b + 1)
+  counting_more {k} {at} {m} {b} t r one C h et er =
+      let l : length t ≡ length (frame_at s (b * n + c)) = ap length (et ∙ ap (λ (p : ℕ). take (size_at (drop p s)) (drop p s)) C.at_frame.place) in
       let f : ℕ → List ℕ = λ j. frame_at s (j * n + c) in
-      let g : at + z ≤ r = omega (arith, er, place_grows s at 1 n one, one_frame s at, ez) in
+      let g : at + length t ≤ r =
+      omega (arith, er, place_grows s at 1 n one, one_frame s at, ap length et, length-take-le (size_at (drop at s)) (drop at s) (size_inside (drop at s))) in
       record {
         few = omega arith;
         at_frame = at_next r C.at_frame er;
@@ -116,12 +120,12 @@ module _ (s : List ℕ) (n c : ℕ) where
         laid = subst (λ (t : List ℕ). TextLaid out 0 t out 0) (sym (runs_none (λ b. frame_at s (b * n + c)))) (laid_none out 0 refl);
       }
 
-  module _ {k : ℕ} {out₀ out : List ℕ} {at to b : ℕ} (C : Copying k out₀ out at to b) (h : b < k) (z : ℕ) (ez : z ≡ size_at (drop at s)) where
-    part : take (at + z - at) (drop at s) ≡ frame_at s (b * n + c)
-    part = frame_part s at (b * n + c) z C.at_frame.place ez
+  module _ {k : ℕ} {out₀ out : List ℕ} {at to b : ℕ} (C : Copying k out₀ out at to b) (h : b < k) {t : List ℕ} (et : t ≡ take (size_at (drop at s)) (drop at s)) where
+    part : t ≡ frame_at s (b * n + c)
+    part = et ∙ ap (λ (p : ℕ). take (size_at (drop p s)) (drop p s)) C.at_frame.place
 
     -- the next frame has room
-    pub copying_room : length (extracted n c k s) ≤ length out₀ → to + length (take (at + z - at) (drop at s)) ≤ length out
+    pub copying_room : length (extracted n c k s) ≤ length out₀ → to + length t ≤ length out
     copying_room r =
         let f : ℕ → List ℕ = λ j. frame_at s (j * n + c) in
         omega (
@@ -135,14 +139,14 @@ module _ (s : List ℕ) (n c : ℕ) where
           length-append (runs b f) (f b),
         )
 
-    pub copying_more : {out' : List ℕ} {to' : ℕ} (r : ℕ) → TextLaid out to (take (at + z - at) (drop at s)) out' to' → r ≡ place_from s at n
+    pub copying_more : {out' : List ℕ} {to' : ℕ} (r : ℕ) → TextLaid out to t out' to' → r ≡ place_from s at n
         → Copying k out₀ out' r to' (b + 1)
     copying_more {out'} {to'} r m er =
         let f : ℕ → List ℕ = λ j. frame_at s (j * n + c) in
         record {
           few = omega arith;
           at_frame = at_next r C.at_frame er;
-          laid = subst (λ (t : List ℕ). TextLaid out₀ 0 t out' to') (ap (λ (t : List ℕ). runs b f ++ t) part ∙ sym (runs_more f b)) (then C.laid m);
+          laid = subst (λ (t : List ℕ). TextLaid out₀ 0 t out' to') (ap (λ (u : List ℕ). runs b f ++ u) part ∙ sym (runs_more f b)) (then C.laid m);
         }
 
   pub copied_all : {k : ℕ} {out₀ out : List ℕ} {at to b : ℕ} → Copying k out₀ out at to b → k ≤ b → length (extracted n c k s) ≤ length out₀

@@ -2,11 +2,11 @@
 -- Assumes nothing.
 use mathlib.Core.Path.{◌≡◌, refl, sym, ap, ap₂, ◌∙◌, subst}
 use mathlib.Core.Bool.{Bool, true, false}
-use mathlib.Core.List.{List, [], ◌∷◌, map}
+use mathlib.Core.List.{List, [], ◌∷◌, ◌++◌, map}
 use Prim.Native.Nat.{ℕ, ◌+◌, ◌*◌, ◌%◌, ◌≤◌, ◌<◌}
 use native.Mathlib.Omega.{arith}
 use lib.Dec.{ltb, eqb}
-use lib.ListN.{length, get_or, take}
+use lib.ListN.{length, get_or, take, length-append}
 use lib.Seq.{get_or-take}
 use borrow.Author.Tests.{le-leb, lt-leb, eqb-true, eqb-false}
 use Rattle.ground.proofs.Laws.Cases.{by_bool}
@@ -133,17 +133,21 @@ module _ {ks vs : List ℕ} where
         few = (omega arith, omega arith);
       }
 
-  module _ {w f i : ℕ} (I : Costing ks vs w f i) where
-    pub cost_turn : {a b : ℕ} → i < length ks → (a ≡ as_word (get_or ks i 0) (get_or vs i 0)) × (a ≤ 16) → (b ≡ as_fixed (get_or ks i 0)) × (b ≤ 16)
-        → Costing ks vs (w + a) (f + b) (i + 1)
-    cost_turn h p q =
-        record {
-          upto = omega arith;
-          words = omega (arith, I.words, p.0, sum_more (λ j. as_word (get_or ks j 0) (get_or vs j 0)) i);
-          fixed = omega (arith, I.fixed, q.0, sum_more (λ j. as_fixed (get_or ks j 0)) i);
-          few = (omega (arith, I.few.0, p.1), omega (arith, I.few.1, q.1));
-        }
+  -- one more pair of a kind and a number, after those in xs
+  pub cost_turn : {X : Type 0} {w f k v a b : ℕ} (xs : List X) (x : X) → Costing ks vs w f (length xs) → length xs < length ks → k ≡ get_or ks (length xs) 0
+      → v ≡ get_or vs (length xs) 0 → (a ≡ as_word k v) × (a ≤ 16) → (b ≡ as_fixed k) × (b ≤ 16) → Costing ks vs (w + a) (f + b) (length (xs ++ x ∷ []))
+  cost_turn xs x I h ek ev p q =
+      let i = length xs in
+      let l : length (xs ++ x ∷ []) ≡ i + 1 = length-append xs (x ∷ []) in
+      rw l
+      (record {
+        upto = omega arith;
+        words = omega (arith, I.words, p.0, ap₂ as_word ek ev, sum_more (λ j. as_word (get_or ks j 0) (get_or vs j 0)) i);
+        fixed = omega (arith, I.fixed, q.0, ap as_fixed ek, sum_more (λ j. as_fixed (get_or ks j 0)) i);
+        few = (omega (arith, I.few.0, p.1), omega (arith, I.few.1, q.1));
+      })
 
+  module _ {w f i : ℕ} (I : Costing ks vs w f i) where
     pub cost_end : length ks ≤ i → ltb w f ≡ cheaper ks vs
     unfolding cheaper
     cost_end h =

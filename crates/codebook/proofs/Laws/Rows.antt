@@ -197,23 +197,19 @@ sign_code n l =
 
 -- ---- what the code reads and makes
 
-pub two_read : {n : ℕ} {low : List ℕ} → (low ≡ twos) × (n < 128) → (get_or low n 0 ≡ get_or twos n 0) × (get_or low n 0 < 65536)
-two_read {n} p =
-    let e = ap (λ (l : List ℕ). get_or l n 0) p.0 in
-    (e, omega (arith, (two_code n p.1).1))
+pub code_two : {n m c : ℕ} {low : List ℕ} → low ≡ twos → n < 128 → m ≡ n → c ≡ get_or low m 0 → (c ≡ code (row n)) × (c < 65536)
+code_two {n} {m} {c} {low} p l g e =
+    let q = two_code n l in
+    let r : c ≡ get_or twos n 0 = e ∙ ap (λ (k : ℕ). get_or low k 0) g ∙ ap (λ (l : List ℕ). get_or l n 0) p in
+    (r ∙ sym q.0 ∙ sym (row_code n (omega arith)), omega (arith, q.1))
 
-pub sign_read : {n : ℕ} {high : List ℕ} → (high ≡ signs) × (n < 128) → (get_or high n 0 ≡ get_or signs n 0) × (get_or high n 0 < 256)
-sign_read {n} p =
-    let e = ap (λ (l : List ℕ). get_or l n 0) p.0 in
-    (e, omega (arith, (sign_code n p.1).1))
-
-pub code_two : {n c : ℕ} → n < 128 → n < 256 → c ≡ get_or twos n 0 → c ≡ code (row n)
-code_two {n} l h e = e ∙ sym (two_code n l).0 ∙ sym (row_code n h)
-
-pub code_sign : {n s : ℕ} → 128 ≤ n → n < 256 → s ≡ get_or signs (n - 128) 0 → (255 - s) * 256 + s ≡ code (row n)
-code_sign {n} l h q =
-    let e : 128 + (n - 128) ≡ n = omega arith in
-    ap signed q ∙ sym (sign_code (n - 128) (omega arith)).0 ∙ ap (λ (m : ℕ). get_or codes m 0) e ∙ sym (row_code n h)
+pub code_sign : {n m s : ℕ} {high : List ℕ} → high ≡ signs → 128 ≤ n → n < 256 → m ≡ n - 128 → s ≡ get_or high m 0
+    → ((255 - s) * 256 + s ≡ code (row n)) × ((255 - s) * 256 + s < 65536)
+code_sign {n} {m} {s} p l h g e =
+    let q = sign_code m (omega arith) in
+    let r : s ≡ get_or signs m 0 = e ∙ ap (λ (l : List ℕ). get_or l m 0) p in
+    let a : 128 + m ≡ n = omega arith in
+    (ap signed r ∙ sym q.0 ∙ ap (λ (k : ℕ). get_or codes k 0) a ∙ sym (row_code n h), omega (arith, q.1))
 
 pub row_made : {n c : ℕ} {v : List ℤ} → n < 256 → c ≡ code (row n) → v ≡ unpack (ltb n 128) c → v ≡ row n
 row_made {n} l e q = q ∙ ap (unpack (ltb n 128)) (e ∙ row_code n l) ∙ sym (row_unpacked n l)

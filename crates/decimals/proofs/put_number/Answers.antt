@@ -10,7 +10,7 @@ use Rattle.decimals.proofs.put_number.Goals as goal
 
 pub put_digits-requires : goal.put_digits-requires
 put_digits-requires c =
-    let room : c.args.at + (length c.args.label.now + length (decimal c.args.n)) ≤ length c.args.out.now = omega (arith, c.requires.1, length-append c.args.label.now (decimal c.args.n)) in
+    let room : c.args.at + (length c.args.label.now + length (decimal c.args.n)) ≤ length c.args.out.now = omega (arith, c.requires, length-append c.args.label.now (decimal c.args.n)) in
     omega (arith, room, laid_long, ap length c.places.ensures, length_digits c.places.result c.args.n)
 
 pub returns : goal.returns

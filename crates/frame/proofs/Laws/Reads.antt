@@ -10,6 +10,8 @@ use lib.ListN.{length, take, drop, length-drop}
 use lib.Seq.{length-take-le}
 use borrow.Author.Tests.{lt-ltb, le-ltb}
 use Rattle.ground.specs.Replies.{short_room, cut}
+use Rattle.ground.specs.Numbered.{number}
+use Rattle.ground.specs.declared.replies.Reply.{Reply}
 use Rattle.bits.specs.Bits.{num, bit, view, val}
 use Rattle.bits.proofs.Laws.Views.{view_rest}
 use Rattle.bits.proofs.Laws.Bytes.{view_bits}
@@ -19,7 +21,8 @@ use Rattle.bits.specs.declared.Refusal.TheVariants.{Outside, Missing, Past}
 use Rattle.norms.specs.Part.{norm_part, norm_bits}
 use Rattle.norms.proofs.Laws.Codec.{norms_there}
 use Rattle.norms.proofs.Laws.Part.{norm_bits_lem}
-use Rattle.norms.specs.Answers.{part_of}
+use Rattle.norms.specs.Answers.{part_of, reply_for}
+use Rattle.norms.proofs.Laws.Replies.{number_for}
 use Rattle.norms.specs.declared.NormPart.{NormPart}
 use Rattle.prefix.specs.Sizes.{mode_bytes, length_bytes, mode_of}
 use Rattle.prefix.proofs.Laws.Sizes.{a2_between, mode_bounds, mode_less_8, mode_given}
@@ -29,7 +32,8 @@ use Rattle.prefix.specs.declared.Prefix.{Prefix}
 use Rattle.prefix.specs.declared.Prefix.TheVariants.{Data}
 use Rattle.prefix.specs.declared.Length.{Length}
 use Rattle.prefix.specs.declared.Mode.{Mode}
-use Rattle.prefix.specs.declared.NamedMode.TheVariants as named-mode
+use Rattle.std.specs.declared.option.Option.TheVariants.{Some, None}
+use Rattle.std.specs.declared.result.Result.TheVariants.{Ok, Err}
 use Rattle.frame.specs.Layout.{is_transient, flag_n, frame}
 use Rattle.kinds.proofs.Laws.Budget.{noise_le}
 use Rattle.frame.proofs.Laws.Places.{frame_no}
@@ -62,44 +66,46 @@ never_done Outside e = omega arith
 never_done Missing e = omega arith
 never_done Past e = omega arith
 
-module _ (s : List ℕ) (long : 80 ≤ length s) (n : NormPart)
-    (e : n ≡ part_of 4 (length s * 8 - 4) ((norm_part (is_transient (view s 0 4)) (flag_n (view s 0 4))).read (view s 4 (length s * 8 - 4)))) where
+module _ (s : List ℕ) (long : 80 ≤ length s) where
   abbrev read : Answer (List ℕ)
   read = (norm_part (is_transient (view s 0 4)) (flag_n (view s 0 4))).read (view s 4 (length s * 8 - 4))
 
-  refused_of : (a : Answer (List ℕ)) → read ≡ a → n ≡ part_of 4 (length s * 8 - 4) a → (n.reply ≡ 0 → ⊥) → (mode : ℕ) → read_body mode s ≡ refused n.reply
+  refused_of : (x : Reply) (a : Answer (List ℕ)) → read ≡ a → Err x ≡ part_of 4 (length s * 8 - 4) a → (mode : ℕ) → read_body mode s ≡ refused (number x)
   unfolding read_body
-  refused_of (got ns r) q g z mode = absurd (z (ap (λ (y : NormPart). y.reply) g))
-  refused_of (no x) q g z mode =
+  refused_of x (got ns r) q g mode = absurd (cc)
+  refused_of x (no y) q g mode =
+      let e : x ≡ reply_for y = cc in
       ap (λ (b : List Bool). outcome mode ((frame (length s * 8)).read b)) (sym (view_bits s))
-      ∙ ap (outcome mode) (frame_no s (length s * 8) (omega arith) x q)
-      ∙ ap refused (sym (ap (λ (y : NormPart). y.reply) g))
+      ∙ ap (outcome mode) (frame_no s (length s * 8) (omega arith) y q)
+      ∙ ap refused (sym (number_for y) ∙ ap number (sym e))
 
-  pub norms_refused : (n.reply ≡ 0 → ⊥) → (mode : ℕ) → read_body mode s ≡ refused n.reply
-  norms_refused z mode = refused_of read refl e z mode
+  pub norms_refused : (x : Reply) → Err x ≡ part_of 4 (length s * 8 - 4) read → (mode : ℕ) → read_body mode s ≡ refused (number x)
+  norms_refused x e mode = refused_of x read refl e mode
 
-  opened_of : (a : Answer (List ℕ)) → read ≡ a → n ≡ part_of 4 (length s * 8 - 4) a → n.reply ≡ 0 → NormsRead s n.norms n.next
-  opened_of (no x) q g z = absurd (never_done x (sym (ap (λ (y : NormPart). y.reply) g) ∙ z))
-  opened_of (got ns r) q g z =
+  opened_of : (n : NormPart) (a : Answer (List ℕ)) → read ≡ a → Ok n ≡ part_of 4 (length s * 8 - 4) a → NormsRead s n.norms n.next
+  opened_of n (no x) q g = absurd (cc)
+  opened_of n (got ns r) q g =
       let t = is_transient (view s 0 4) in
       let f = flag_n (view s 0 4) in
       let end = length s * 8 in
       let w = norms_there t f (view s 4 (end - 4)) ns r q in
       let v = view_rest s 4 (end - 4) (norm_bits t f ns) r w.0 in
       let l = norm_bits_lem t f ns w.1 in
-      let next : n.next ≡ 4 + (end - 4 - length r) = ap (λ (y : NormPart). y.next) g in
+      let m₀ : NormPart = record { next = 4 + (end - 4 - length r); norms = ns } in
+      let made : n ≡ m₀ = cc in
+      let next : n.next ≡ 4 + (end - 4 - length r) = ap (λ (y : NormPart). y.next) made in
       let p : 4 + length (norm_bits t f ns) ≡ n.next = omega (arith, v.1) in
       let m : end - 4 - length (norm_bits t f ns) ≡ end - n.next = omega (arith, v.1) in
       record {
-        said = q ∙ ap₂ got (sym (ap (λ (y : NormPart). y.norms) g)) (v.0 ∙ ap₂ (λ (x y : ℕ). view s x y) p m);
+        said = q ∙ ap₂ got (sym (ap (λ (y : NormPart). y.norms) made)) (v.0 ∙ ap₂ (λ (x y : ℕ). view s x y) p m);
         far = omega arith;
         near = omega (arith, l.1);
         four = omega arith;
         room = omega (arith, l.1, noise_le t);
       }
 
-  pub norms_opened : n.reply ≡ 0 → NormsRead s n.norms n.next
-  norms_opened z = opened_of read refl e z
+  pub norms_opened : (n : NormPart) → Ok n ≡ part_of 4 (length s * 8 - 4) read → NormsRead s n.norms n.next
+  norms_opened n e = opened_of n read refl e
 
 -- ---- the whole reading
 
@@ -146,8 +152,8 @@ pub length_body : (src : List ℕ) (n : ℕ) → n < length src → length (body
 length_body src n h = length-take-le n (drop 1 src) (omega (arith, length-drop 1 src))
 
 -- the mode that the field names is L − 8
-pub field_mode : (src : List ℕ) (f : Length) → Data f ≡ prefix_of src → (m : Mode) → mode_of f.0 ≡ named-mode.Is m → m.0 ≡ f.0 - 8
+pub field_mode : (src : List ℕ) (f : Length) → Data f ≡ prefix_of src → (m : Mode) → mode_of f.0 ≡ Some m → m.0 ≡ f.0 - 8
 field_mode src f e = let d = prefix_data src f (sym e) in mode_less_8 f.0 d.0 d.1
 
-pub field_named : (src : List ℕ) (f : Length) → Data f ≡ prefix_of src → mode_of f.0 ≡ named-mode.None → ⊥
+pub field_named : (src : List ℕ) (f : Length) → Data f ≡ prefix_of src → mode_of f.0 ≡ None → ⊥
 field_named src f e = let d = prefix_data src f (sym e) in mode_given f.0 d.0 d.1

@@ -1,20 +1,19 @@
 -- `frame::read_rest` meets its contract: codes and noise at their places. Assumes nothing.
 use native.Mathlib.Omega.{arith}
-use Rattle.frame.proofs.Laws.Bodies.{Rest, Ended, noise_small, rest_refused, rest_ended, rest_told}
+use Rattle.std.proofs.lemmas.Result.{err_from_is_err_and}
+use Rattle.frame.proofs.Laws.Bodies.{rest_of, noise_small, rest_refused, rest_ended, rest_told}
 use Rattle.frame.proofs.read_rest.Goals as goal
 
-pub returns-in_default : goal.returns-in_default
-returns-in_default c =
-    let rest : Rest c.args.s.now c.args.flags c.args.norms c.args.at c.noise_bits-k.result c.kinds_for-kinds.result = search in
-    rest_refused rest _ c.in_default.is (search) c.run_reply.ensures (search)
+pub returns-in_err-next : goal.returns-in_err-next
+returns-in_err-next c =
+    let p = err_from_is_err_and c.from_residual.result c.from_residual.ensures.1 in
+    rw (p.1) (rest_refused (rest_of c.requires.norms_read c.noise_bits-k.ensures c.kinds_for-kinds.ensures) _ c.in_err-next.ensures.0 p.2)
 
-pub overflow_cast-noise : goal.overflow_cast-noise
-overflow_cast-noise c =
-    let rest : Rest c.args.s.now c.args.flags c.args.norms c.args.at c.noise_bits-k.result c.kinds_for-kinds.result = search in
-    omega (arith, noise_small rest _ c.read_bits-noise.ensures)
+pub overflow_cast-result : goal.overflow_cast-result
+overflow_cast-result c =
+    omega (arith, noise_small (rest_of c.requires.norms_read c.noise_bits-k.ensures c.kinds_for-kinds.ensures) _ c.read_bits-noise.ensures)
 
 pub returns : goal.returns
 returns c =
-    let rest : Rest c.args.s.now c.args.flags c.args.norms c.args.at c.noise_bits-k.result c.kinds_for-kinds.result = search in
-    let ended : Ended c.args.s.now c.args.at c.noise_bits-k.result c.kinds_for-kinds.result c.in-Done.next c.read_words-run.new.out = rest_ended rest _ _ c.in-Done.is c.read_words-run.ensures.0 (search) c.read_words-run.ensures.1 in
-    rest_told rest ended _ (search) (search) c.read_bits-noise.ensures (search)
+    let rest = rest_of c.requires.norms_read c.noise_bits-k.ensures c.kinds_for-kinds.ensures in
+    rest_told rest (rest_ended rest _ _ c.in_ok-next.ensures.0 (search) c.in_ok-next.ensures.1) _ (search) (search) c.read_bits-noise.ensures

@@ -6,6 +6,7 @@ use Rattle.ground.proofs.Laws.Refusals.{by_rows}
 use Rattle.recording.proofs.Laws.Blocks.{counted}
 use Rattle.frames.specs.Rooms.{room_causes}
 use Rattle.frames.proofs.room_reply.Goals as goal
+use Rattle.frames.proofs.room_reply.Goals.{then-codes-channels-via-then-codes-channels, then-codes-channels-via-else-codes-channels+then-tails-channels}
 
 pub returns-then-not-is_count : goal.returns-then-not-is_count
 unfolding room_causes
@@ -13,7 +14,6 @@ returns-then-not-is_count c =
     search by_rows
 
 pub overflow_mul-channels : goal.overflow_mul-channels
-unfolding room_causes
 overflow_mul-channels c =
     let few : c.args.channels ≤ 8 = (counted _ (sym c.is_count.ensures ∙ c.if-not-is_count.false)).1 in
     omega (arith, few)
@@ -21,12 +21,10 @@ overflow_mul-channels c =
 pub returns-then-codes-channels : goal.returns-then-codes-channels
 unfolding room_causes
 returns-then-codes-channels c =
-    search by_rows
-
-pub returns-then-tails-channels : goal.returns-then-tails-channels
-unfolding room_causes
-returns-then-tails-channels c =
-    search by_rows
+    elim c.then-codes-channels.branch [
+      | then-codes-channels-via-then-codes-channels w ↦ search by_rows
+      | then-codes-channels-via-else-codes-channels+then-tails-channels w ↦ search by_rows
+    ]
 
 pub returns : goal.returns
 unfolding room_causes

@@ -1,12 +1,12 @@
 -- A loop that fills an array of n places, one a turn, or reckons a value in n turns: what holds before a turn, and what it leaves. Assumes nothing.
 use mathlib.Core.Path.{◌≡◌, ap, ◌∙◌}
 use mathlib.Core.List.{List, ◌∷◌}
-use Prim.Native.Nat.{ℕ, suc, ◌+◌, ◌-◌, ◌<◌, ◌≤◌}
+use Prim.Native.Nat.{ℕ, ◌+◌, ◌<◌, ◌≤◌}
 use native.Mathlib.Omega.{arith}
 use lib.ListN.{length, get_or, set, length-set}
 use Rattle.ground.specs.ListsByRule.{table}
 use Rattle.ground.proofs.Laws.ListsByRule.{filled}
-use Rattle.ground.proofs.Laws.ListsByRule.{fill, fill_down, bound, everywhere}
+use Rattle.ground.proofs.Laws.ListsByRule.{fill}
 
 module _ {A : Type 0} where
   -- upwards: the first i places are as f says
@@ -28,41 +28,8 @@ module _ {A : Type 0} where
   pub filling_done : {n : ℕ} {f : ℕ → A} {l : List A} {i : ℕ} → Filling n f l i → n ≤ i → l ≡ table n f
   filling_done {n} {f} {l} r h = filled f n (f 0) l r.long (λ k b. r.same (f 0) k (omega arith))
 
-  -- downwards: the places from i on are as f says
-  pub record Falling (n : ℕ) (f : ℕ → A) (l : List A) (i : ℕ) : Type 0 where
-    pub upto : i ≤ n
-    pub long : length l ≡ n
-    pub same : (d : A) (k : ℕ) → i ≤ k → k < n → get_or l k d ≡ f k
-
-  pub falling_one : {n i : ℕ} {f : ℕ → A} {l : List A} → length l ≡ n → n ≡ suc i → ((d : A) → get_or l i d ≡ f i) → Falling n f l i
-  falling_one {n} {i} {f} {l} q s e = record { upto = omega arith; long = q; same = λ d k b h. let z : k ≡ i = omega arith in rw z (e d) }
-
-  pub falling_more : {n : ℕ} {f : ℕ → A} {l : List A} {i : ℕ} {v : A} → Falling n f l i → 0 < i → v ≡ f (i - 1) → Falling n f (set l (i - 1) v) (i - 1)
-  falling_more {n} {f} {l} {i} {v} r h e =
-      record {
-        upto = omega arith;
-        long = simp length-set r.long;
-        same = λ d. fill_down f d l n i (i - 1) v (omega arith) (omega arith) (r.same d) e;
-      }
-
-  pub falling_done : {n : ℕ} {f : ℕ → A} {l : List A} {i : ℕ} → Falling n f l i → i ≤ 0 → l ≡ table n f
-  falling_done {n} {f} {l} r h = filled f n (f 0) l r.long (λ k b. r.same (f 0) k (omega arith) b)
-
--- the first i places are at most m
-pub record Under (m : ℕ) (l : List ℕ) (i : ℕ) : Type 0 where
-  pub most : (k : ℕ) → k < i → get_or l k 0 ≤ m
-
-pub under_none : {m : ℕ} {l : List ℕ} → Under m l 0
-under_none = record { most = λ k h. absurd (omega arith) }
-
-pub under_more : {n m : ℕ} {f : ℕ → ℕ} {l : List ℕ} {i v : ℕ} → Filling n f l i → Under m l i → i < n → v ≤ m → Under m (set l i v) (i + 1)
-under_more {n} {m} {f} {l} {i} {v} r u h e = record { most = bound m l i v (omega arith) u.most e }
-
-pub under_done : {n m : ℕ} {f : ℕ → ℕ} {l : List ℕ} {i : ℕ} → Filling n f l i → Under m l i → n ≤ i → (k : ℕ) → get_or l k 0 ≤ m
-under_done {n} {m} {f} {l} r u h = everywhere l n m r.long (λ k b. u.most k (omega arith))
-
 -- what closes the start, a turn and the end of a loop that fills
-pub ruleset filling = (filling_none, filling_one, filling_more, filling_done, under_none, under_more, under_done)
+pub ruleset filling = (filling_none, filling_one, filling_more, filling_done)
 
 module _ {A : Type 0} where
   -- a value reckoned in n turns: after i of them it is g i

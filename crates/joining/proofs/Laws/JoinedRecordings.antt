@@ -23,7 +23,7 @@ use Rattle.joining.specs.Joining.{start_of, recording_at, own_check, joined, joi
 use Rattle.joining.specs.Joining.{InSource, Joinable}
 use Rattle.channels.specs.Copies.{made_copy, refused_copy, stopped_copy}
 use Rattle.channels.proofs.Laws.Walks.{own_frames, own_made}
-use Rattle.joining.proofs.Laws.Joining.{length_recording, length_joined, checked_common, joined_few}
+use Rattle.joining.proofs.Laws.Joining.{counts_made, length_recording, length_joined, checked_common, joined_few}
 use Rattle.channels.specs.declared.Copied.{Copied}
 
 -- ---- all recordings
@@ -42,11 +42,6 @@ refused_none w (suc n) h =
     let r = refused_none w n (λ c b. h c (omega arith)) in
     ap (λ (a : Copied). first_copy a (cond (eqb (w n).reply 0) (refused_copy done) (stopped_copy (w n) (n + 1)))) r
     ∙ rw (eq-eqb (w n).reply 0 (h n (omega arith))) refl
-
-counts_made : (w : ℕ → Check) (k n : ℕ) → ((c : ℕ) → c < n → (w c).count ≡ k) → equal_counts w k n ≡ true
-unfolding equal_counts
-counts_made w k zero h = refl
-counts_made w k (suc n) h = rw (eq-eqb (w n).count k (h n (omega arith))) (counts_made w k n (λ c b. h c (omega arith)))
 
 -- ---- the join
 

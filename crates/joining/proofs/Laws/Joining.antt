@@ -8,15 +8,17 @@ use native.Mathlib.Nat.{add-zero, zero-add, add-suc, suc-add}
 use native.Mathlib.Numerals.{add-one}
 use native.Mathlib.Omega.{arith}
 use lib.Dec.{eqb, ltb}
+use Rattle.std.specs.Prelude.{sum_by}
+use Rattle.std.proofs.lemmas.List.{get_or-take}
+use Rattle.std.proofs.lemmas.List.Sums.{sum_by_more}
 use lib.ListN.{length, take, drop, get_or, set, replicate, length-append, length-drop, length-replicate, get_or-append}
-use lib.Seq.{length-take-le, drop-cons, drop_at, get_or_at}
+use lib.Seq.{length-take-le, take_all, drop-cons, drop_at, get_or_at}
 use borrow.Author.Tests.{eq-eqb, ne_eqb, lt-ltb, le-ltb, eqb-true, eqb-false}
 use Rattle.ground.proofs.Laws.Cases.{by_bool}
-use Rattle.ground.specs.ListsByRule.{table}
+use Rattle.ground.specs.ListsByRule.{from, table}
 use Rattle.ground.proofs.Laws.ListsByRule.{length_from, get_d_table}
-use Rattle.ground.proofs.Laws.ListsByRule.{table_same}
 use Rattle.ground.specs.Runs.{runs}
-use Rattle.ground.proofs.Laws.Runs.{runs_none, runs_more, length_runs, Fronted, fronted_none, fronted_more, drop_same}
+use Rattle.ground.proofs.Laws.Runs.{runs_none, runs_more, length_runs, Fronted, fronted_none, fronted_more}
 use Rattle.ground.specs.Sums.{nth, sum_to}
 use Rattle.ground.proofs.Laws.Sums.{sum_more, sum_same, sum_none, sum_both, sum_grows}
 use Rattle.ground.specs.Laying.{laid_text, TextLaid}
@@ -27,10 +29,10 @@ use Rattle.recording.specs.Blocks.{is_count, walk_blocks}
 use Rattle.recording.specs.declared.answer.Check.{Check}
 use Rattle.recording.proofs.Laws.Blocks.{counted}
 use Rattle.frames.specs.Places.{size_at, place_of, frame_at}
-use Rattle.frames.proofs.Laws.Places.{size_inside, place_none, place_more, place_inside}
+use Rattle.frames.proofs.Laws.Places.{place_none, place_more, place_inside}
 use Rattle.frames.proofs.Laws.Frames.{placed_all}
 use Rattle.channels.proofs.Laws.Walks.{walk_sound, own_frames}
-use Rattle.channels.proofs.Laws.Extracting.{length_frame, runs_under}
+use Rattle.channels.proofs.Laws.Extracting.{length_frame, frame_part, frame_inside, runs_under}
 use Rattle.joining.specs.Joining.{start_of, recording_at, own_check, block_of, joined, joined_of, first_copy, refused_in, equal_counts, check_all, join_answer}
 use Rattle.joining.specs.Joining.{join_after, InSource}
 use Rattle.channels.specs.Copies.{made_copy, refused_copy, stopped_copy}
@@ -40,6 +42,18 @@ use Rattle.joining.specs.declared.Progress.{Progress}
 
 -- ---- where the recordings lie
 
+-- behind the lengths in front of it together
+pub start_is : (lengths : List ℕ) (c : ℕ) → c ≤ length lengths → sum_by (λ (n : ℕ). n) (take c lengths) ≡ start_of lengths c
+unfolding sum_to
+start_is lengths zero h = refl
+start_is lengths (suc c) h =
+    ap (λ (k : ℕ). sum_by (λ (n : ℕ). n) (take k lengths)) (sym (add-one c)) ∙ sum_by_more (λ (n : ℕ). n) lengths c 0 h
+    ∙ ap (λ (k : ℕ). k + nth lengths c) (start_is lengths c (omega arith))
+
+pub total_is : (lengths : List ℕ) → sum_by (λ (n : ℕ). n) lengths ≡ start_of lengths (length lengths)
+total_is lengths =
+    ap (sum_by (λ (n : ℕ). n)) (sym (take_all (length lengths) lengths (omega arith))) ∙ start_is lengths (length lengths) (omega arith)
+
 module _ (src lengths : List ℕ) where
   -- the next begins behind
   pub start_next : (c : ℕ) → start_of lengths (c + 1) ≡ start_of lengths c + nth lengths c
@@ -47,12 +61,6 @@ module _ (src lengths : List ℕ) where
 
   pub start_inside : InSource src lengths → (c : ℕ) → c ≤ length lengths → start_of lengths c ≤ length src
   start_inside L c h = omega (arith, L.inside, sum_grows (nth lengths) c (length lengths) h)
-
-  -- the part of the source from where a recording begins to where the next does
-  pub part_is : (a e c : ℕ) → a ≡ start_of lengths c → e ≡ start_of lengths (c + 1) → take (e - a) (drop a src) ≡ recording_at src lengths c
-  part_is a e c p q =
-      let m : e - a ≡ nth lengths c = omega (arith, start_next c) in
-      ap₂ (λ (k j : ℕ). take k (drop j src)) m p
 
   pub length_recording : InSource src lengths → (c : ℕ) → c < length lengths → length (recording_at src lengths c) ≡ nth lengths c
   length_recording L c h =
@@ -71,21 +79,19 @@ first_next a b h = rw (eq-eqb a.reply 0 h)
 pub same_reply : {a b : Copied} → a ≡ b → a.reply ≡ b.reply
 same_reply e = ap (λ (x : Copied). x.reply) e
 
-both_tests : (a b : Bool) → cond a b false ≡ cond b a false
-both_tests true true = refl
-both_tests true false = refl
-both_tests false true = refl
-both_tests false false = refl
-
--- c recordings are sound; the first has the count first, and all have it where equal holds
-pub record Alike (w : ℕ → Check) (first : ℕ) (equal : Bool) (c : ℕ) : Type 0 where
+-- c recordings are sound, and their counts are the first of eight
+pub record Checked (w : ℕ → Check) (counts : List ℕ) (c : ℕ) : Type 0 where
   pub none : refused_in w c ≡ refused_copy done
-  pub begun : 1 ≤ c → first ≡ (w 0).count
-  pub same : equal ≡ equal_counts w first c
+  pub counted : Fronted (λ k. (w k).count) (replicate 8 0) counts c
 
-pub alike_none : {w : ℕ → Check} {first : ℕ} {equal : Bool} → equal ≡ true → Alike w first equal 0
-unfolding refused_in equal_counts
-alike_none e = record { none = refl; begun = λ h. absurd (omega arith); same = e }
+pub checked_none : {w : ℕ → Check} → Checked w (replicate 8 0) 0
+unfolding refused_in
+checked_none = record { none = refl; counted = fronted_none }
+
+pub counts_made : (w : ℕ → Check) (k n : ℕ) → ((c : ℕ) → c < n → (w c).count ≡ k) → equal_counts w k n ≡ true
+unfolding equal_counts
+counts_made w k zero h = refl
+counts_made w k (suc n) h = rw (eq-eqb (w n).count k (h n (omega arith))) (counts_made w k n (λ c b. h c (omega arith)))
 
 module _ (w : ℕ → Check) where
   refused_kept : (c k : ℕ) → ((refused_in w c).reply ≡ 0 → ⊥) → refused_in w (c + k) ≡ refused_in w c
@@ -107,70 +113,92 @@ module _ (w : ℕ → Check) where
   unfolding equal_counts
   equal_more k c = refl
 
-module _ {w : ℕ → Check} {first : ℕ} {equal : Bool} {c : ℕ} (A : Alike w first equal c) where
+  all_equal : (k n : ℕ) → equal_counts w k n ≡ true → (c : ℕ) → c < n → (w c).count ≡ k
+  all_equal k zero e c h = absurd (omega arith)
+  all_equal k (suc n) e c h =
+      by_bool (eqb (w n).count k)
+      (λ t.
+      let q : equal_counts w k n ≡ true = sym (equal_more k n ∙ (rw t)) ∙ e in
+      by_bool (eqb c n)
+      (λ y. ap (λ (j : ℕ). (w j).count) (eqb-true c n y) ∙ eqb-true (w n).count k t)
+      (λ y. let d = eqb-false c n y in all_equal k n q c (omega (arith, d))))
+      (λ t. let q : false ≡ true = sym (equal_more k n ∙ (rw t)) ∙ e in absurd (false≢true q))
+
+module _ {w : ℕ → Check} {counts : List ℕ} {c : ℕ} (A : Checked w counts c) where
   -- a recording that is refused stops all
-  pub alike_stop : (n : ℕ) → c < n → (found : Check) → found ≡ w c → (found.reply ≡ 0 → ⊥) → (x : Copied) → x ≡ stopped_copy found (c + 1) → x ≡ check_all w n
+  pub checked_stop : (n : ℕ) → c < n → (found : Check) → found ≡ w c → (found.reply ≡ 0 → ⊥) → (x : Copied) → x ≡ stopped_copy found (c + 1)
+      → (x ≡ check_all w n) × (0 < x.reply)
   unfolding check_all
-  alike_stop n h found f z x e =
+  checked_stop n h found f z x e =
       let y : (w c).reply ≡ 0 → ⊥ = λ q. z (ap (λ (v : Check). v.reply) f ∙ q) in
       let s = refused_here w c A.none y in
       let m : n ≡ suc c + (n - suc c) = omega arith in
-      let r : refused_in w n ≡ stopped_copy (w c) (c + 1) = ap (refused_in w) m ∙ refused_kept w (suc c) (n - suc c) (λ q. y (sym (same_reply s) ∙ q)) ∙ s in
-      e ∙ ap (λ (v : Check). stopped_copy v (c + 1)) f ∙ sym r ∙ sym (first_kept (refused_in w n) _ (λ q. y (sym (same_reply r) ∙ q)))
+      let r : refused_in w n ≡ stopped_copy (w c) (c + 1) = ap (refused_in w) m ∙ refused_kept w (suc c) (n - suc c) (λ q. y (sym (same_reply s) ∙ q)) ∙ s in (
+        e ∙ ap (λ (v : Check). stopped_copy v (c + 1)) f ∙ sym r ∙ sym (first_kept (refused_in w n) _ (λ q. y (sym (same_reply r) ∙ q))),
+        omega (arith, z, same_reply e),
+      )
 
-  other_first : (k : ℕ) → ((c ≡ 0 → ⊥) → k ≡ first) → equal_counts w first c ≡ equal_counts w k c
-  unfolding equal_counts
-  other_first k h = go c refl
-    where
-      go : (d : ℕ) → c ≡ d → equal_counts w first d ≡ equal_counts w k d
-      go zero e = refl
-      go (suc d) e = ap (λ (j : ℕ). equal_counts w j (suc d)) (sym (h (λ z. omega arith)))
-
-  pub alike_more : (found : Check) → found ≡ w c → found.reply ≡ 0 → (k : ℕ) → (c ≡ 0 → k ≡ found.count) → ((c ≡ 0 → ⊥) → k ≡ first)
-      → (still : Bool) → still ≡ cond equal (eqb found.count k) false → Alike w k still (c + 1)
-  alike_more found f z k hz hs still e =
-      let n : (w c).count ≡ found.count = ap (λ (v : Check). v.count) (sym f) in
-      let m : c + 1 ≡ suc c = add-one c in
+  pub checked_more : c < 8 → (found : Check) → found ≡ w c → found.reply ≡ 0 → Checked w (set counts c found.count) (c + 1)
+  checked_more h found f z =
       record {
-        none = ap (refused_in w) m ∙ none_here w c A.none (ap (λ (v : Check). v.reply) (sym f) ∙ z);
-        begun = λ h. by_bool (eqb c 0)
-            (λ t. let q = eqb-true c 0 t in hz q ∙ sym n ∙ ap (λ (j : ℕ). (w j).count) q)
-            (λ t. let q = eqb-false c 0 t in hs q ∙ A.begun (omega (arith, q)));
-        same =
-            e ∙ both_tests equal (eqb found.count k)
-            ∙ ap (λ (b : Bool). cond (eqb found.count k) b false) (A.same ∙ other_first k hs)
-            ∙ ap (λ (j : ℕ). cond (eqb j k) (equal_counts w k c) false) (sym n)
-            ∙ sym (equal_more w k c) ∙ ap (equal_counts w k) (sym m);
+        none = ap (refused_in w) (add-one c) ∙ none_here w c A.none (ap (λ (v : Check). v.reply) (sym f) ∙ z);
+        counted = fronted_more A.counted h (ap (λ (v : Check). v.count) f);
       }
 
-  all_said : 1 ≤ c → check_all w c ≡ cond equal (made_copy done 0 first 0 0) (refused_copy wrong_channels)
-  unfolding check_all
-  all_said h =
-      first_next (refused_in w c) _ (same_reply A.none)
-      ∙ ap (λ (k : ℕ). cond (equal_counts w k c) (made_copy done 0 k 0 0) (refused_copy wrong_channels)) (sym (A.begun h))
-      ∙ ap (λ (b : Bool). cond b (made_copy done 0 first 0 0) (refused_copy wrong_channels)) (sym A.same)
+-- all n recordings are sound
+module _ {w : ℕ → Check} {counts : List ℕ} {n : ℕ} (A : Checked w counts n) (h : 1 ≤ n) (m : n ≤ 8) where
+  count_at : (k : ℕ) → k < n → get_or counts k 0 ≡ (w k).count
+  count_at k b =
+      let g : ℕ → ℕ = λ j. (w j).count in
+      ap (λ (l : List ℕ). get_or l k 0) A.counted.same
+      ∙ get_or-append (table n g) (drop n (replicate 8 0)) 0 k (omega (arith, length_from g n 0)) ∙ get_d_table g n 0 k b
 
-  pub alike_not : 1 ≤ c → equal ≡ false → refused_copy wrong_channels ≡ check_all w c
-  alike_not h e = sym (all_said h ∙ (rw e))
+  pub counts_long : length (take n counts) ≡ n
+  counts_long = length-take-le n counts (omega (arith, A.counted.long))
 
-  pub alike_all : 1 ≤ c → equal ≡ true → made_copy done 0 first 0 0 ≡ check_all w c
-  alike_all h e = sym (all_said h ∙ (rw e))
+  -- the test whether each count is the first
+  module _ {one : ℕ} (e : one ≡ get_or counts 0 0) (b : Bool) where
+    pub test_told : (b ≡ true → (k : ℕ) → k < length (take n counts) → get_or (take n counts) k 0 ≡ one)
+        → (((k : ℕ) → k < length (take n counts) → get_or (take n counts) k 0 ≡ one) → b ≡ true) → b ≡ equal_counts w (w 0).count n
+    test_told f g =
+        let first : one ≡ (w 0).count = e ∙ count_at 0 h in
+        by_bool b
+        (λ t. t ∙ sym (counts_made w (w 0).count n
+        (λ k l. sym (count_at k l) ∙ sym (get_or-take n counts k 0 l) ∙ f t k (omega (arith, counts_long)) ∙ first)))
+        (λ t.
+        by_bool (equal_counts w (w 0).count n)
+        (λ y. g (λ k l. let l' : k < n = omega (arith, counts_long, l) in
+        get_or-take n counts k 0 l' ∙ count_at k l' ∙ all_equal w (w 0).count n y k l' ∙ sym first) ∙ sym y)
+        (λ y. t ∙ sym y))
+
+    all_said : check_all w n ≡ cond (equal_counts w (w 0).count n) (made_copy done 0 (w 0).count 0 0) (refused_copy wrong_channels)
+    unfolding check_all
+    all_said = first_next (refused_in w n) _ (same_reply A.none)
+
+    pub checked_not : b ≡ equal_counts w (w 0).count n → b ≡ false → refused_copy wrong_channels ≡ check_all w n
+    checked_not q t = let y : equal_counts w (w 0).count n ≡ false = sym q ∙ t in sym (all_said ∙ (rw y))
+
+    pub checked_all : b ≡ equal_counts w (w 0).count n → b ≡ true → made_copy done 0 one 0 0 ≡ check_all w n
+    checked_all q t =
+        let y : equal_counts w (w 0).count n ≡ true = sym q ∙ t in
+        ap (λ (k : ℕ). made_copy done 0 k 0 0) (e ∙ count_at 0 h) ∙ sym (all_said ∙ (rw y))
 
 -- ---- the places
 
--- where frame b of recording c begins in the source
+-- where frame b begins in recording c
 abbrev pub place_in : List ℕ → List ℕ → ℕ → ℕ → ℕ
-place_in src lengths b c = start_of lengths c + place_of (recording_at src lengths c) b
+place_in src lengths b c = place_of (recording_at src lengths c) b
 
-pub places_first : (src lengths places : List ℕ) → length lengths ≤ 8 → Fronted (start_of lengths) (replicate 8 0) places (length lengths)
-    → places ≡ places_at src lengths 0
-places_first src lengths places h F =
+zeros : (f : ℕ → ℕ) (n i m : ℕ) → ((k : ℕ) → f k ≡ 0) → from f n i ++ replicate m 0 ≡ replicate (n + m) 0
+unfolding from
+zeros f zero i m h = ap (λ (k : ℕ). replicate k 0) (sym (zero-add m))
+zeros f (suc n) i m h = ap₂ (λ (x : ℕ) (l : List ℕ). x ∷ l) (h i) (zeros f n (suc i) m h) ∙ ap (λ (k : ℕ). replicate k 0) (sym (suc-add n m))
+
+pub places_first : (src lengths : List ℕ) → length lengths ≤ 8 → replicate 8 0 ≡ places_at src lengths 0
+places_first src lengths h =
     let n = length lengths in
-    F.same
-    ∙ ap₂ (λ (x y : List ℕ). x ++ y)
-    (table_same (start_of lengths) (place_in src lengths 0) n 0
-    (λ c a b. sym (ap (λ (k : ℕ). start_of lengths c + k) (sym (place_none (recording_at src lengths c) 0)) ∙ add-zero (start_of lengths c))))
-    (drop_same n 8 0 h)
+    let e : n + (8 - n) ≡ 8 = omega arith in
+    sym (zeros (place_in src lengths 0) n 0 (8 - n) (λ c. sym (place_none (recording_at src lengths c) 0)) ∙ ap (λ (k : ℕ). replicate k 0) e)
 
 pub length_places : (src lengths : List ℕ) (b : ℕ) → length lengths ≤ 8 → length (places_at src lengths b) ≡ 8
 length_places src lengths b h =
@@ -193,18 +221,6 @@ fronted_at {f} {l₀} {l} {i} F h =
 
 -- ---- one block
 
-no_bytes : (x y : ℕ) → drop x (take y (let n : List ℕ = [] in n)) ≡ []
-no_bytes zero zero = refl
-no_bytes zero (suc y) = refl
-no_bytes (suc x) zero = refl
-no_bytes (suc x) (suc y) = refl
-
--- a part of a front
-drop_front : (a m q : ℕ) (s : List ℕ) → drop (a + q) (take (a + m) s) ≡ drop q (take m (drop a s))
-drop_front zero m q s = ap₂ (λ (x y : ℕ). drop x (take y s)) (zero-add q) (zero-add m)
-drop_front (suc a) m q [] = no_bytes (suc a + q) (suc a + m) ∙ sym (no_bytes q m)
-drop_front (suc a) m q (x ∷ s) = ap₂ (λ (y z : ℕ). drop y (take z (x ∷ s))) (suc-add a q) (suc-add a m) ∙ drop_front a m q s
-
 laid_nothing : (s : List ℕ) (at : ℕ) → TextLaid s at [] s at
 unfolding laid_text
 laid_nothing s at = record { after = sym (add-zero at); bytes = refl }
@@ -216,66 +232,49 @@ pub record BlockSoFar (src lengths out₀ : List ℕ) (b next : ℕ) (out places
   pub laid : TextLaid out₀ next (runs c (λ c. frame_at (recording_at src lengths c) b)) out to
 
 module _ {src lengths out₀ : List ℕ} {b next : ℕ} {out places : List ℕ} {to c : ℕ} (T : BlockSoFar src lengths out₀ b next out places to c)
-    (L : InSource src lengths) (h : c < length lengths) where
-  abbrev s : List ℕ
-  s = recording_at src lengths c
-
+    (few : length lengths ≤ 8) (h : c < length lengths) {r : List ℕ} (eᵣ : r ≡ recording_at src lengths c) {p : ℕ} (eₚ : p ≡ get_or places c 0) where
   -- where the recording goes on
-  turn_place : {p : ℕ} → p ≡ get_or places c 0 → p ≡ place_in src lengths b c
-  turn_place e = e ∙ fronted_at T.front (omega (arith, length_places src lengths b L.few, L.few)) ∙ place_at src lengths b c h
+  turn_place : p ≡ place_of r b
+  turn_place =
+      eₚ ∙ fronted_at T.front (omega (arith, length_places src lengths b few)) ∙ place_at src lengths b c h ∙ ap (λ (s : List ℕ). place_of s b) (sym eᵣ)
 
-  -- behind that, the source up to the recording's end is what is left of the recording
-  module _ {end p : ℕ} (eₑ : end ≡ start_of lengths (c + 1)) (eₚ : p ≡ get_or places c 0) where
-    rest_is : drop p (take end src) ≡ drop (place_of s b) s
-    rest_is =
-        ap₂ (λ (x y : ℕ). drop x (take y src)) (turn_place eₚ) (eₑ ∙ start_next src lengths c)
-        ∙ drop_front (start_of lengths c) (nth lengths c) (place_of s b) src
+  pub turn_inside : p ≤ length r
+  turn_inside = omega (arith, turn_place, place_inside r 0 b (omega arith))
 
-    module _ {k : ℕ} (eₖ : k ≡ size_at (drop p (take end src))) where
-      size_is : k ≡ size_at (drop (place_of s b) s)
-      size_is = eₖ ∙ ap size_at rest_is
+  module _ {k : ℕ} (eₖ : k ≡ size_at (drop p r)) where
+    pub frame_end : p + k ≤ length r
+    frame_end = frame_inside r p k turn_inside eₖ
 
-      pub frame_end : p + k ≤ end
-      frame_end =
-          omega (
-            arith,
-            size_is,
-            size_inside (drop (place_of s b) s),
-            length-drop (place_of s b) s,
-            turn_place eₚ,
-            start_next src lengths c,
-            place_inside s 0 b (omega arith),
-            length_recording src lengths L c h,
-          )
+    -- what is put is the recording's next frame
+    text_is : take (p + k - p) (drop p r) ≡ frame_at (recording_at src lengths c) b
+    text_is = frame_part r p b k turn_place eₖ ∙ ap (λ (s : List ℕ). frame_at s b) eᵣ
 
-      -- what is put is the recording's next frame
-      text_is : take (p + k - p) (drop p (take end src)) ≡ frame_at s b
-      text_is = let n : p + k - p ≡ k = omega arith in ap₂ (λ (x : ℕ) (y : List ℕ). take x y) (n ∙ size_is) rest_is
+    pub frame_room : next + length (block_of (length lengths) (recording_at src lengths) b) ≤ length out₀
+        → to + length (take (p + k - p) (drop p r)) ≤ length out
+    frame_room m =
+        let f : ℕ → List ℕ = λ c. frame_at (recording_at src lengths c) b in
+        omega (
+          arith,
+          T.laid.after,
+          laid_long T.laid,
+          ap length text_is,
+          ap length (runs_more f c),
+          length-append (runs c f) (f c),
+          runs_under f (c + 1) (length lengths) (omega arith),
+        )
 
-      pub frame_room : next + length (block_of (length lengths) (recording_at src lengths) b) ≤ length out₀
-          → to + length (take (p + k - p) (drop p (take end src))) ≤ length out
-      frame_room r =
-          let f : ℕ → List ℕ = λ c. frame_at (recording_at src lengths c) b in
-          omega (
-            arith,
-            T.laid.after,
-            laid_long T.laid,
-            ap length text_is,
-            ap length (runs_more f c),
-            length-append (runs c f) (f c),
-            runs_under f (c + 1) (length lengths) (omega arith),
-          )
-
-      pub frame_more : {after : List ℕ} {on : ℕ} → TextLaid out to (take (p + k - p) (drop p (take end src))) after on
-          → BlockSoFar src lengths out₀ b next after (set places c (p + k)) on (c + 1)
-      frame_more {after} {on} l =
-          let f : ℕ → List ℕ = λ c. frame_at (recording_at src lengths c) b in
-          let e : p + k ≡ place_in src lengths (b + 1) c = omega (arith, turn_place eₚ, size_is, place_more s 0 b) in
-          record {
-            few = omega arith;
-            front = fronted_more T.front (omega (arith, length_places src lengths b L.few, L.few)) e;
-            laid = subst (λ (t : List ℕ). TextLaid out₀ next t after on) (ap (λ (x : List ℕ). runs c f ++ x) text_is ∙ sym (runs_more f c)) (then T.laid l);
-          }
+    pub frame_more : {after : List ℕ} {on : ℕ} → TextLaid out to (take (p + k - p) (drop p r)) after on
+        → BlockSoFar src lengths out₀ b next after (set places c (p + k)) on (c + 1)
+    frame_more {after} {on} l =
+        let f : ℕ → List ℕ = λ c. frame_at (recording_at src lengths c) b in
+        let e : p + k ≡ place_in src lengths (b + 1) c =
+        ap₂ (λ (x y : ℕ). x + y) turn_place (eₖ ∙ ap (λ (x : ℕ). size_at (drop x r)) turn_place) ∙ sym (place_more r 0 b)
+        ∙ ap (λ (s : List ℕ). place_of s (b + 1)) eᵣ in
+        record {
+          few = omega arith;
+          front = fronted_more T.front (omega (arith, length_places src lengths b few)) e;
+          laid = subst (λ (t : List ℕ). TextLaid out₀ next t after on) (ap (λ (x : List ℕ). runs c f ++ x) text_is ∙ sym (runs_more f c)) (then T.laid l);
+        }
 
 module _ {src lengths out : List ℕ} {t : Progress} (S : BlocksLaid src lengths out t) where
   pub block_so_far_none : BlockSoFar src lengths out t.block t.next out t.places t.next 0
@@ -402,17 +401,6 @@ module _ (w : ℕ → Check) where
       (λ y. let d = eqb-false c n y in all_sound n z c (omega (arith, d))))
       (λ t. let d = eqb-false (refused_in w n).reply 0 t in absurd (d (sym (same_reply (first_kept (refused_in w n) own d)) ∙ e)))
 
-  all_equal : (k n : ℕ) → equal_counts w k n ≡ true → (c : ℕ) → c < n → (w c).count ≡ k
-  all_equal k zero e c h = absurd (omega arith)
-  all_equal k (suc n) e c h =
-      by_bool (eqb (w n).count k)
-      (λ t.
-      let q : equal_counts w k n ≡ true = sym (equal_more w k n ∙ (rw t)) ∙ e in
-      by_bool (eqb c n)
-      (λ y. ap (λ (j : ℕ). (w j).count) (eqb-true c n y) ∙ eqb-true (w n).count k t)
-      (λ y. let d = eqb-false c n y in all_equal k n q c (omega (arith, d))))
-      (λ t. let q : false ≡ true = sym (equal_more w k n ∙ (rw t)) ∙ e in absurd (false≢true q))
-
   pub checked_common : (n : ℕ) → (check_all w n).reply ≡ 0 → Common w n
   unfolding check_all
   checked_common n e =
@@ -423,7 +411,7 @@ module _ (w : ℕ → Check) where
       let z = eqb-true (refused_in w n).reply 0 t in
       let f : check_all w n ≡ own = first_next (refused_in w n) own z in
       by_bool (equal_counts w k n)
-      (λ y. record { sound = all_sound n z; equal = all_equal k n y; said = f ∙ (rw y) })
+      (λ y. record { sound = all_sound n z; equal = all_equal w k n y; said = f ∙ (rw y) })
       (λ y. let d : own ≡ refused_copy wrong_channels = rw y in absurd (let x : 17 ≡ 0 = sym (same_reply (f ∙ d)) ∙ e in omega arith)))
       (λ t. let d = eqb-false (refused_in w n).reply 0 t in absurd (d (sym (same_reply (first_kept (refused_in w n) own d)) ∙ e)))
 

@@ -7,7 +7,6 @@ use Prim.Native.Nat.{ℕ, ◌-◌, ◌≤◌}
 use borrow.Author.Tests.{eq-eqb, ne_eqb}
 use native.Mathlib.Omega.{arith}
 use Rattle.allotment.specs.Allotment.{shares_of}
-use Rattle.allotment.specs.declared.Shares.{Shares}
 use Rattle.kinds.specs.Kinds.{kinds}
 use Rattle.kinds.specs.Budget.{noise_bits, all_compete, kinds_at}
 
@@ -33,10 +32,6 @@ noise_le true = omega arith
 noise_le false = omega arith
 
 -- ---- what the code makes of the flags, step by step
-
-pub rates_made : {s : Shares} {w : Bool} (t l : Bool) (norms : List ℕ) (end budget : ℕ) → w ≡ all_compete end l → s ≡ shares_of t w norms budget
-    → s.rates ≡ (shares_of t (all_compete end l) norms budget).rates
-rates_made t l norms end budget ew es = ap (λ (x : Shares). x.rates) (es ∙ ap (λ (b : Bool). shares_of t b norms budget) ew)
 
 pub kinds_made : {m k b : ℕ} {rates ks : List ℕ} (t w c : Bool) (norms : List ℕ) (end at : ℕ) → m ≡ end - at → k ≡ noise_bits t → b ≡ m - k
     → rates ≡ (shares_of t w norms b).rates → ks ≡ kinds c rates → ks ≡ kinds_at t w c norms (end - at - noise_bits t)

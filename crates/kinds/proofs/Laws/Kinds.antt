@@ -2,18 +2,20 @@
 -- Assumes nothing.
 use mathlib.Core.Path.{◌≡◌, refl, sym, ap, ◌∙◌}
 use mathlib.Core.Bool.{Bool, true, false, cond}
-use mathlib.Core.List.{List}
+use mathlib.Core.List.{List, ◌++◌}
 use Prim.Native.Nat.{ℕ, ◌+◌, ◌-◌, ◌/◌, ◌%◌, ◌≤◌, ◌<◌}
 use native.Mathlib.Omega.{arith}
 use lib.Dec.{ltb, eqb, eqb→eq}
-use lib.ListN.{length, get_or, set, length-set, replicate}
-use borrow.Author.Tests.{lt-ltb, le-ltb, ltb-true, ltb-false, le-leb, lt-leb, eq-eqb, ne_eqb}
+use lib.ListN.{length, get_or, set, length-set, replicate, take, drop, length-append, get_or-append}
+use borrow.Rule.Slice.PartMut.{put_mid}
+use Rattle.std.proofs.Common.{get_or-set_same, get_or-set_other}
+use Rattle.std.proofs.lemmas.List.{get_or-take, get_or-append_right, get_or-replicate, length-take-le, length-drop}
+use borrow.Author.Tests.{lt-ltb, le-ltb, ltb-true, ltb-false, le-leb, lt-leb, eq-eqb, ne_eqb, eqb-true, eqb-false}
 use Rattle.ground.proofs.Laws.Cases.{by_bool}
 use Rattle.ground.proofs.Laws.ListsByRule.{length_from, filled}
 use Rattle.ground.specs.Runs.{runs}
 use Rattle.ground.proofs.Laws.PrintedTables.{every_at}
 use Rattle.contest.specs.Bands.{length_of}
-use Rattle.ground.proofs.Laws.ListsByRule.{fill_eight}
 use Rattle.kinds.specs.Kinds.{place_bands, band_of, kind_of, kinds}
 
 pub length_kinds : (flag_c : Bool) (rates : List ℕ) → length (kinds flag_c rates) ≡ 800
@@ -53,6 +55,9 @@ pub band_32 : (i : ℕ) → 544 ≤ i → i < 800 → 36 + (i - 544) / 32 ≡ ba
 unfolding band_by
 band_32 i p h = rw (le-ltb i 128 (omega arith), le-ltb i 256 (omega arith), le-ltb i 544 p) at (band_by_lem i h)
 
+-- what closes the code's tests of a place
+pub ruleset by_place = (band_8, band_16, band_24, band_32)
+
 -- ---- the kind of a place, by the tests
 
 module _ (c : Bool) (rate i : ℕ) where
@@ -80,6 +85,9 @@ module _ (c : Bool) (rate i : ℕ) where
     pub kind_plain : c ≡ false → rate ≡ kind_of c rate i
     unfolding kind_of
     kind_plain e = rw (ne_eqb rate 1 h, e)
+
+-- what closes the code's tests of a rate
+pub ruleset by_rate = (kind_first, kind_none, kind_word, kind_high, kind_low, kind_plain)
 
 -- ---- eight places at a time: a group of eight lies in one band, and its places but the first are of one kind
 
@@ -110,6 +118,39 @@ pub kind_group : (c : Bool) (rate i k : ℕ) → (i % 8 ≡ 0 → ⊥) → (k % 
 unfolding kind_of
 kind_group c rate i k m n = rw (ne_eqb (i % 8) 0 m, ne_eqb (k % 8) 0 n)
 
+-- ---- eight places from i on that are overwritten by one number, and the first of them by another
+
+abbrev overwritten : List ℕ → List ℕ → ℕ → ℕ → List ℕ
+overwritten out ys i v = set (put_mid i (i + 8 - i) out ys) i v
+
+module _ (out ys : List ℕ) (i v w : ℕ) (e : ys ≡ replicate 8 w) (b : i + 8 ≤ length out) where
+  eight : length ys ≡ 8
+  eight = ap length e
+
+  front : length (take i out) ≡ i
+  front = length-take-le i out (omega arith)
+
+  length_mid : length (put_mid i (i + 8 - i) out ys) ≡ length out
+  length_mid = simp (length-append, length-drop, eight, front) (omega arith)
+
+  length_overwritten : length (overwritten out ys i v) ≡ length out
+  length_overwritten = simp length-set length_mid
+
+  overwritten_below : (k : ℕ) → k < i → get_or (overwritten out ys i v) k 0 ≡ get_or out k 0
+  overwritten_below k h =
+      get_or-set_other (put_mid i (i + 8 - i) out ys) i k v 0 (λ z. omega arith)
+      ∙ get_or-append (take i out) (ys ++ drop (i + 8 - i) (drop i out)) 0 k (omega (arith, front)) ∙ get_or-take i out k 0 h
+
+  overwritten_first : get_or (overwritten out ys i v) i 0 ≡ v
+  overwritten_first = get_or-set_same (put_mid i (i + 8 - i) out ys) i v 0 (omega (arith, length_mid))
+
+  overwritten_other : (k : ℕ) → i < k → k < i + 8 → get_or (overwritten out ys i v) k 0 ≡ w
+  overwritten_other k g h =
+      get_or-set_other (put_mid i (i + 8 - i) out ys) i k v 0 (λ z. omega arith)
+      ∙ get_or-append_right (take i out) (ys ++ drop (i + 8 - i) (drop i out)) i k 0 front (omega arith)
+      ∙ get_or-append ys (drop (i + 8 - i) (drop i out)) 0 (k - i) (omega (arith, eight))
+      ∙ ap (λ (l : List ℕ). get_or l (k - i) 0) e ∙ get_or-replicate 8 (k - i) w 0 (omega arith)
+
 -- ---- the loop that fills eight places a turn: those below i stand in out
 
 pub record Filling (c : Bool) (rates out : List ℕ) (i : ℕ) : Type 0 where
@@ -124,23 +165,42 @@ module _ {c : Bool} {rates : List ℕ} where
 
   module _ {out : List ℕ} {i : ℕ} (I : Filling c rates out i) where
     -- the rate of the band of place i is that of the seven after it
-    pub fill_turn : {b v w : ℕ} → i < 800 → b ≡ band_of i → v ≡ kind_of c (get_or rates b 0) i → w ≡ kind_of c (get_or rates b 0) (i + 1)
-        → Filling c rates (set (set (set (set (set (set (set (set out i v) (i + 1) w) (i + 2) w) (i + 3) w) (i + 4) w) (i + 5) w) (i + 6) w) (i + 7) w) (i + 8)
-    fill_turn {b} {v} {w} h eb ev ew =
+    pub fill_turn : {b v w j : ℕ} {ys : List ℕ} → i < 800 → j ≡ i + 8 → b ≡ band_of i → ys ≡ replicate (length (take (i + 8 - i) (drop i out))) w
+        → v ≡ kind_of c (get_or rates b 0) i → w ≡ kind_of c (get_or rates b 0) (i + 1) → Filling c rates (overwritten out ys i v) j
+    fill_turn {b} {v} {w} {j} {ys} h ej eb er ev ew =
         let m = I.eights in
-        let same : (k : ℕ) → i ≤ k → k < i + 8 → get_or rates b 0 ≡ get_or rates (band_of k) 0 =
-        λ k p q. ap (λ (x : ℕ). get_or rates x 0) (eb ∙ sym (band_group i k h m p q)) in
+        let o : i + 8 ≤ length out = omega (arith, m, I.long) in
         record {
           upto = omega (arith, m);
           eights = omega (arith, m);
-          long = simp length-set I.long;
-          said =
-              fill_eight (λ (k : ℕ). kind_of c (get_or rates (band_of k) 0) k) 0 out i v w (omega (arith, m, I.long)) I.said
-              (ev ∙ ap (λ (x : ℕ). kind_of c x i) (same i (omega arith) (omega arith)))
-              (λ k p q.
-              ew ∙ kind_group c (get_or rates b 0) (i + 1) k (λ z. omega (arith, m)) (λ z. omega (arith, m))
-              ∙ ap (λ (x : ℕ). kind_of c x k) (same k (omega arith) q));
+          long = length_overwritten out ys i v w ey o ∙ I.long;
+          said = λ k q. place k (omega arith);
         }
+      where
+        ey : ys ≡ replicate 8 w
+        ey =
+            let o : 8 ≤ length (drop i out) = omega (arith, length-drop i out, I.eights, I.long) in
+            let n : i + 8 - i ≡ 8 = omega arith in
+            er ∙ ap (λ (k : ℕ). replicate k w) (ap (λ (k : ℕ). length (take k (drop i out))) n ∙ length-take-le 8 (drop i out) o)
+
+        place : (k : ℕ) → k < i + 8 → get_or (overwritten out ys i v) k 0 ≡ kind_of c (get_or rates (band_of k) 0) k
+        place k q =
+            let m = I.eights in
+            let o : i + 8 ≤ length out = omega (arith, m, I.long) in
+            let same : (k : ℕ) → i ≤ k → k < i + 8 → get_or rates b 0 ≡ get_or rates (band_of k) 0 =
+            λ k p q. ap (λ (x : ℕ). get_or rates x 0) (eb ∙ sym (band_group i k h m p q)) in
+            by_bool (ltb k i) (λ t. let l = ltb-true k i t in overwritten_below out ys i v w ey o k l ∙ I.said k l)
+            (λ t.
+            let l = ltb-false k i t in
+            by_bool (eqb k i)
+            (λ u.
+            let z = eqb-true k i u in
+            ap (λ (x : ℕ). get_or (overwritten out ys i v) x 0) z ∙ overwritten_first out ys i v w ey o ∙ ev
+            ∙ ap (λ (x : ℕ). kind_of c x i) (same i (omega arith) (omega arith)) ∙ ap (λ (x : ℕ). kind_of c (get_or rates (band_of x) 0) x) (sym z))
+            (λ u.
+            let n = eqb-false k i u in
+            overwritten_other out ys i v w ey o k (omega (arith, n)) q ∙ ew
+            ∙ kind_group c (get_or rates b 0) (i + 1) k (λ z. omega (arith, m)) (λ z. omega (arith, m, n)) ∙ ap (λ (x : ℕ). kind_of c x k) (same k l q)))
 
     pub fill_end : 800 ≤ i → out ≡ kinds c rates
     unfolding kinds

@@ -2,14 +2,18 @@
 -- Assumes nothing.
 use mathlib.Core.Path.{◌≡◌, refl, sym, ap, ◌∙◌}
 use mathlib.Core.Bool.{Bool, true, false, cond}
-use mathlib.Core.List.{List}
+use mathlib.Core.List.{List, [], ◌∷◌}
 use Prim.Native.Nat.{ℕ, zero, suc, ◌+◌, ◌*◌, ◌-◌, ◌%◌, ◌<◌, ◌≤◌}
 use native.Mathlib.Nat.{mod-lt, div-add-mod}
 use native.Mathlib.Numerals.{add-one}
 use native.Mathlib.Omega.{arith}
 use borrow.Author.Tests.{ltb-true, ltb-false, lt-ltb, le-ltb}
 use lib.Dec.{ltb}
-use lib.ListN.{get_or}
+use lib.ListN.{length, get_or}
+use Rattle.std.specs.Prelude.{sum}
+use Rattle.std.proofs.lemmas.List.Sums.{sum_by-cons}
+use Rattle.ground.specs.Sums.{sum_to}
+use Rattle.ground.proofs.Laws.Sums.{sum_front}
 use lib.IntN.{ℤ, pos, negsuc, nat_abs, ◌*ℤ◌}
 use lib.Signed.{lt_z}
 use Rattle.ground.proofs.Laws.Cases.{by_bool}
@@ -39,13 +43,28 @@ is_above {z = negsuc n} {a = a} {b = b} p = sym (le-ltb b a (omega arith))
 
 -- ---- the numbers x, the code's first one given
 
-pub x_first : (k : List ℕ) {i first : ℕ} → first ≡ x k 0 → i ≡ 0 → first ≡ x k i
-x_first k e z = e ∙ ap (x k) (sym z)
-
 pub x_other : (k : List ℕ) {i y : ℕ} → y ≡ get_or k i 0 → (i ≡ 0 → ⊥) → y ≡ x k i
 unfolding x
 x_other k {i = zero} e z = absurd (z refl)
 x_other k {i = suc i} e z = e
+
+-- ---- the first x: the first of eight numbers, and their sum
+
+sum_list : (l : List ℕ) → sum l ≡ sum_to (λ (i : ℕ). get_or l i 0) (length l)
+unfolding sum_to
+sum_list [] = refl
+sum_list (n ∷ l) = sum_by-cons (λ (i : ℕ). i) n l ∙ ap (λ (s : ℕ). n + s) (sum_list l) ∙ sym (sum_front (λ (i : ℕ). get_or (n ∷ l) i 0) (length l))
+
+pub first_sum : (k : List ℕ) → length k ≡ 8 → get_or k 0 0 + sum k ≡ 2 * get_or k 0 0 + sum_to (λ (i : ℕ). get_or k (suc i) 0) 7
+first_sum k e =
+    let s : sum k ≡ sum_to (λ (i : ℕ). get_or k i 0) 8 = sum_list k ∙ ap (sum_to (λ (i : ℕ). get_or k i 0)) e in
+    omega (arith, sum_front (λ (i : ℕ). get_or k i 0) 7)
+
+pub sum_small : (k : List ℕ) → length k ≡ 8 → ((i : ℕ) → get_or k i 0 < 65536) → sum k < 524288
+unfolding sum_to
+sum_small k e h =
+    let s : sum k ≡ sum_to (λ (i : ℕ). get_or k i 0) 8 = sum_list k ∙ ap (sum_to (λ (i : ℕ). get_or k i 0)) e in
+    omega (arith, h 0, h 1, h 2, h 3, h 4, h 5, h 6, h 7)
 
 -- ---- rounding: nearest, and half downwards
 
@@ -101,33 +120,26 @@ largest_alike f g (suc n) h =
     at-largest zero h = h 0 (omega arith)
     at-largest (suc n) h = h (largest g (suc n)) (omega (arith, largest_lt g n))
 
--- ---- the search for the largest: w is the first place of the largest of the first i, and most is how large it is
-pub record Leading (f : ℕ → ℕ) (n w most i : ℕ) : Type 0 where
+-- ---- the search for the largest: w is the first place of the largest of the first i
+pub record Leading (f : ℕ → ℕ) (n w i : ℕ) : Type 0 where
   pub begun : 1 ≤ i
   pub upto : i ≤ n
   pub inside : w < n
   pub place : w ≡ largest f i
-  pub height : most ≡ f w
 
-pub leading_first : {f : ℕ → ℕ} {n most : ℕ} → 1 ≤ n → most ≡ f 0 → Leading f n 0 most 1
-leading_first {f} b e = record { begun = omega arith; upto = b; inside = b; place = omega (arith, largest_lt f 0); height = e }
+pub leading_first : {f : ℕ → ℕ} {n : ℕ} → 1 ≤ n → Leading f n 0 1
+leading_first {f} b = record { begun = omega arith; upto = b; inside = b; place = omega (arith, largest_lt f 0) }
 
-module _ {f : ℕ → ℕ} {n w w₁ most most₁ here i : ℕ} (p : Leading f n w most i) (b : i < n) (h : here ≡ f i) where
-  pub leading_new : most < here → w₁ ≡ i → most₁ ≡ here → Leading f n w₁ most₁ (i + 1)
-  leading_new l u v =
-      let e : most ≡ f (largest f i) = p.height ∙ ap f p.place in
-      record { begun = omega arith; upto = omega arith; inside = omega arith; place = u ∙ sym (largest_more f i (omega arith)); height = v ∙ h ∙ ap f (sym u) }
+module _ {f : ℕ → ℕ} {n w here there i : ℕ} (p : Leading f n w i) (b : i < n) (g : here ≡ f w) (h : there ≡ f i) where
+  at_largest : here ≡ f (largest f i)
+  at_largest = g ∙ ap f p.place
 
-  pub leading_kept : here ≤ most → w₁ ≡ w → most₁ ≡ most → Leading f n w₁ most₁ (i + 1)
-  leading_kept l u v =
-      let e : most ≡ f (largest f i) = p.height ∙ ap f p.place in
-      record {
-        begun = omega arith;
-        upto = omega arith;
-        inside = omega (arith, p.inside);
-        place = u ∙ p.place ∙ sym (largest_same f i (omega arith));
-        height = v ∙ p.height ∙ ap f (sym u);
-      }
+  pub leading_new : {w₁ : ℕ} → here < there → w₁ ≡ i → Leading f n w₁ (i + 1)
+  leading_new l u =
+      let e = at_largest in
+      record { begun = omega arith; upto = omega arith; inside = omega arith; place = u ∙ sym (largest_more f i (omega arith)) }
 
-pub leading_last : {f : ℕ → ℕ} {n w most i : ℕ} → Leading f n w most i → n ≤ i → (w ≡ largest f n) × (w < n)
-leading_last {f} p b = let e = p.upto in (p.place ∙ ap (largest f) (omega arith), p.inside)
+  pub leading_kept : {w₁ : ℕ} → there ≤ here → w₁ ≡ w → Leading f n w₁ (i + 1)
+  leading_kept l u =
+      let e = at_largest in
+      record { begun = omega arith; upto = omega arith; inside = omega (arith, p.inside); place = u ∙ p.place ∙ sym (largest_same f i (omega arith)) }

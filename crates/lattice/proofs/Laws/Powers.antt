@@ -8,16 +8,25 @@ use native.Mathlib.Nat.{mod-eq_of_lt, mul-mod_right}
 use native.Mathlib.Omega.{arith}
 use lib.Dec.{eqb}
 use lib.Pow.{pow_mono, pow-add}
-use Rattle.lattice.specs.Inner.{Power}
+use Rattle.std.specs.declared.option.Option.{Option}
+use Rattle.std.specs.declared.option.Option.TheVariants.{Some, None}
 use Rattle.lattice.specs.Lattice.{rounded_sum, worst}
 
--- the place that is changed; 8 if there is none
-unfoldable pub changed_place : ℕ → List ℕ → ℕ
-changed_place r k = cond (eqb (rounded_sum r k % 2) 1) (worst r k) 8
+-- the place that is changed, if there is one
+unfoldable pub changed_place : ℕ → List ℕ → Option ℕ
+changed_place r k = cond (eqb (rounded_sum r k % 2) 1) (Some (worst r k)) None
 
 -- a lower power divides a higher one
 divides : (m n k : ℕ) → m + n ≡ k → 2 ^ k % 2 ^ m ≡ 0
 divides m n k e = ap (λ (j : ℕ). j % 2 ^ m) (sym (ap (λ (j : ℕ). 2 ^ j) e) ∙ pow-add 2 m n) ∙ mul-mod_right (2 ^ m) (2 ^ n)
+
+-- what holds of the r of a rate
+pub record Power (n r : ℕ) : Type 0 where
+  pub is : r ≡ 2 ^ n
+  pub low : 4 ≤ r
+  pub high : r ≤ 512
+  pub even : r % 2 ≡ 0
+  pub divides : 32768 % r ≡ 0
 
 pub powers : (n : ℕ) → 2 ≤ n → n ≤ 9 → Power n ((1 * 2 ^ n) % 2 ^ 32)
 powers n a b =

@@ -1,13 +1,13 @@
--- Every number has a word of its kind: by the test, and by the loop that tries them one by one.
+-- Every number has a word of its kind: by the test, and by the chain that tries each pair.
 -- Assumes nothing.
-use mathlib.Core.Path.{◌≡◌, refl, sym, ap, ap₂, ◌∙◌}
-use mathlib.Core.Bool.{Bool, true, false, ◌&&◌}
+use mathlib.Core.Path.{◌≡◌, refl, sym, ap, ◌∙◌}
+use mathlib.Core.Bool.{Bool, true, false, ◌&&◌, and-false}
 use mathlib.Core.List.{List, [], ◌∷◌, map}
-use Prim.Native.Nat.{ℕ, suc, ◌+◌, ◌≤◌, ◌<◌}
-use native.Mathlib.Numerals.{add-one}
+use Prim.Native.Nat.{ℕ, zero, suc, ◌<◌}
 use native.Mathlib.Omega.{arith}
-use lib.ListN.{length, get_or, drop, drop_of_length-le}
-use lib.Seq.{drop-cons}
+use lib.ListN.{length}
+use Rattle.std.specs.Bool.{MatchBool}
+use Rattle.std.specs.List.{AllWithin, HoldsAt, zip}
 use Rattle.ground.proofs.Laws.Cases.{and_true}
 use Rattle.bits.specs.Codings.{Coding, fit}
 use Rattle.bits.proofs.Laws.Codings.{fit_yes, fit_at}
@@ -31,35 +31,32 @@ all_fits [] (v ∷ vs) f = absurd f
 all_fits (c ∷ cs) [] f = absurd f
 all_fits (c ∷ cs) (v ∷ vs) f = rw (fit_yes c v f.0) (all_fits cs vs f.1)
 
--- the first i numbers fit
-pub record Fitting (kinds numbers : List ℕ) (i : ℕ) : Type 0 where
-  pub upto : i ≤ length kinds
-  pub said : fits (map coding kinds) numbers ≡ fits (map coding (drop i kinds)) (drop i numbers)
+-- ---- a test of each pair of a kind and a number
 
-module _ {kinds numbers : List ℕ} where
-  pub fit_start : Fitting kinds numbers 0
-  fit_start = record { upto = omega arith; said = refl }
+abbrev pub Fits : ℕ × ℕ → Type 0
+Fits p = fit (coding p.0) p.1 ≡ true
 
-  module _ {i : ℕ} (I : Fitting kinds numbers i) (l : length kinds ≡ length numbers) where
-    module _ {b : Bool} (h : i < length kinds) (e : b ≡ fit (coding (get_or kinds i 0)) (get_or numbers i 0)) where
-      fit_head : fits (map coding kinds) numbers ≡ (b && fits (map coding (drop (suc i) kinds)) (drop (suc i) numbers))
-      unfolding fits
-      fit_head =
-          I.said ∙ ap₂ (λ (x y : List ℕ). fits (map coding x) y) (drop-cons kinds i 0 h) (drop-cons numbers i 0 (omega arith))
-          ∙ ap (λ (z : Bool). z && fits (map coding (drop (suc i) kinds)) (drop (suc i) numbers)) (sym e)
+abbrev pub Fails : ℕ × ℕ → Type 0
+Fails p = fit (coding p.0) p.1 ≡ false
 
-      pub fit_no : b ≡ false → false ≡ fits (map coding kinds) numbers
-      fit_no q = sym (fit_head ∙ rw q)
+each_fits : (ks vs : List ℕ) → length ks ≡ length vs → AllWithin Fits (zip ks vs) 0 (length (zip ks vs)) → fits (map coding ks) vs ≡ true
+unfolding fits
+each_fits [] [] e h = refl
+each_fits [] (v ∷ vs) e h = absurd (omega arith)
+each_fits (k ∷ ks) [] e h = absurd (omega arith)
+each_fits (k ∷ ks) (v ∷ vs) e h = rw (h 0 (0, 0) (omega arith) (omega arith)) (each_fits ks vs (omega arith) (λ i d l u. h (suc i) d (omega arith) (omega arith)))
 
-      pub fit_turn : b ≡ true → Fitting kinds numbers (i + 1)
-      fit_turn q =
-          record {
-            upto = omega arith;
-            said = fit_head ∙ (rw q) ∙ ap (λ (k : ℕ). fits (map coding (drop k kinds)) (drop k numbers)) (sym (add-one i));
-          }
+one_fails : (ks vs : List ℕ) (i : ℕ) → length ks ≡ length vs → i < length (zip ks vs) → HoldsAt Fails (zip ks vs) i → fits (map coding ks) vs ≡ false
+unfolding fits
+one_fails [] [] i e l h = absurd (omega arith)
+one_fails [] (v ∷ vs) i e l h = absurd (omega arith)
+one_fails (k ∷ ks) [] i e l h = absurd (omega arith)
+one_fails (k ∷ ks) (v ∷ vs) zero e l h = rw (h (0, 0)) refl
+one_fails (k ∷ ks) (v ∷ vs) (suc i) e l h =
+    ap (λ (b : Bool). fit (coding k) v && b) (one_fails ks vs i (omega arith) (omega arith) (λ d. h d)) ∙ and-false (fit (coding k) v)
 
-    pub fit_end : length kinds ≤ i → true ≡ fits (map coding kinds) numbers
-    unfolding fits
-    fit_end h =
-        sym
-        (I.said ∙ ap₂ (λ (x y : List ℕ). fits (map coding x) y) (drop_of_length-le kinds h) (drop_of_length-le numbers {i = i} (omega arith)))
+pub fits_told : (b : Bool) (ks vs : List ℕ) → length ks ≡ length vs
+    → MatchBool b (AllWithin Fits (zip ks vs) 0 (length (zip ks vs))) ((i : ℕ) × (i < length (zip ks vs)) × HoldsAt Fails (zip ks vs) i)
+    → b ≡ fits (map coding ks) vs
+fits_told true ks vs e m = sym (each_fits ks vs e m)
+fits_told false ks vs e m = sym (one_fails ks vs m.0 e m.1 m.2)

@@ -29,6 +29,7 @@ use Rattle.frame.specs.declared.Record.{Record}
 use Rattle.kinds.specs.declared.Flags.{Flags}
 use Rattle.layout.specs.Fits.{fits}
 use Rattle.layout.specs.declared.Plan.{Plan}
+use Rattle.layout.specs.declared.Parts.{Parts}
 use Rattle.layout.specs.Parts.{flag_bits, total, budget_for, rates_for, kinds_for, plan_of, start_causes, codes_long, code_causes, layout_causes}
 use Rattle.layout.specs.Parts.{no_parts, parts_with, parts_by, parts_in, layout_of}
 
@@ -46,10 +47,10 @@ plan_made r n b e rs ks en ee eb er ek =
 
 -- the plan as the code makes it: bytes, norm bits, budget, rates, kinds
 pub plan_code : {bytes wide n left k b : ℕ} {f : Flags} {rs ks : List ℕ} (r : Record) → bytes ≡ mode_bytes r.mode → wide ≡ bytes
-    → n ≡ length (norm_bits r.transient r.flag_n r.norms) → left ≡ wide * 8 - (4 + n) → k ≡ noise_bits r.transient → b ≡ left - k
+    → n ≡ length (norm_bits r.transient r.flag_n r.norms) → k ≡ noise_bits r.transient → left ≡ wide * 8 - (4 + n) → b ≡ left - k
     → f ≡ flags_of (flag_bits r) → rs ≡ (shares_of f.transient (all_compete (wide * 8) f.l) r.norms b).rates → ks ≡ kinds r.flag_c rs
     → record { budget = b; rates = rs; kinds = ks } ≡ plan_of r
-plan_code {wide = wide} {b = b} r ey ew en el ek eb ef er es =
+plan_code {wide = wide} {b = b} r ey ew en ek el eb ef er es =
     plan_made r _ _ _ _ _ en (ap (λ (x : ℕ). x * 8) (ew ∙ ey)) (eb ∙ ap₂ (λ (x y : ℕ). x - y) el ek)
     (er ∙ ap (λ (x : Flags). (shares_of x.transient (all_compete (wide * 8) x.l) r.norms b).rates) ef) es
 
@@ -147,6 +148,17 @@ module _ (budget : ℕ) (rates kinds vs : List ℕ) where
 -- ---- the layout
 
 module _ (r : Record) (cs : List ℕ) (x : ℕ) (ex : x ≡ first (start_causes r (length cs))) where
+  -- a refusal of the start is the layout's
+  pub start_first : (x ≡ 0 → ⊥) → x ≡ first (layout_causes r cs)
+  unfolding layout_causes
+  start_first n = front_first _ _ ex n
+
+  -- behind the start the codes decide
+  pub codes_first : {y : ℕ} {p : Plan} → x ≡ 0 → p ≡ plan_of r → y ≡ first (code_causes p.budget p.kinds (take 800 cs)) → y ≡ first (layout_causes r cs)
+  unfolding plan_of layout_causes
+  codes_first z ep ey =
+      back_first _ _ (start_numbered r (length cs)) (sym ex ∙ z) (ey ∙ ap (λ (p : Plan). first (code_causes p.budget p.kinds (take 800 cs))) ep)
+
   pub layout_start : (x ≡ 0 → ⊥) → no_parts x ≡ layout_of r cs
   unfolding layout_of layout_causes
   layout_start n =
@@ -182,6 +194,12 @@ module _ (r : Record) (cs : List ℕ) where
   pub laid_out : LaidOut r cs → layout_of r cs ≡ parts_with (budget_for r) (rates_for r) (codes_long (kinds_for r) (take 800 cs))
   unfolding layout_of
   laid_out L = sym (by_yes _ (budget_for r) (rates_for r) _ (layout_none L))
+
+  -- and what it leaves for the tail
+  pub layout_left : {p : Parts} → done ≡ first (layout_causes r cs) → p ≡ layout_of r cs
+      → p.tail_bits ≡ budget_for r - codes_long (kinds_for r) (take 800 cs)
+  unfolding layout_of
+  layout_left e ep = ap (λ (p : Parts). p.tail_bits) (ep ∙ sym (by_yes _ (budget_for r) (rates_for r) _ (sym e)))
 
   pub laid_told : (layout_of r cs).reply ≡ 0 → LaidOut r cs
   unfolding layout_causes code_causes

@@ -3,9 +3,9 @@ use Rattle.ground.proofs.Laws.Refusals.{by_rows}
 use Rattle.layout.specs.Parts.{start_causes}
 use Rattle.layout.proofs.start_reply.Goals as goal
 
-pub returns-then-mode-gt19 : goal.returns-then-mode-gt19
+pub returns-then-r-gt19 : goal.returns-then-r-gt19
 unfolding start_causes
-returns-then-mode-gt19 c =
+returns-then-r-gt19 c =
     search by_rows
 
 pub returns-then-codes-lt800 : goal.returns-then-codes-lt800
@@ -16,4 +16,5 @@ returns-then-codes-lt800 c =
 pub returns : goal.returns
 unfolding start_causes
 returns c =
-    search by_rows
+    let said = c.norm_reply.ensures in
+    search (by_rows, said)

@@ -17,9 +17,9 @@ use Rattle.legal.proofs.Laws.Passes.{capped_le, length_capped}
 use Rattle.legal.specs.Answers.{legalised}
 
 module _ (transient : Bool) (norms : List ℕ) where
-  pub legal_no : in_range norms 44 ≡ false → record { reply = out_of_range; norms = replicate 44 0 } ≡ legalised transient norms
+  pub legal_no : {r : ℕ} → in_range norms 44 ≡ false → r ≡ out_of_range → record { reply = r; norms = replicate 44 0 } ≡ legalised transient norms
   unfolding legalised
-  legal_no e = rw e
+  legal_no e q = rw (e, q)
 
   pub legal_yes : (ns : List ℕ) → in_range norms 44 ≡ true → ns ≡ legal_of transient norms → record { reply = done; norms = ns } ≡ legalised transient norms
   unfolding legalised

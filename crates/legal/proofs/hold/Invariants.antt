@@ -1,10 +1,6 @@
 -- `legal::hold` meets its contract: places up to i are filled, the highest of them by `last`. Assumes nothing.
-use Prim.Native.Nat.{◌-◌}
 use Rattle.legal.proofs.Laws.Loops.{Holding}
 use Rattle.legal.proofs.hold.Given as goal
 
 abbrev pub invariant-loop-i : goal.invariant-loop-i
-invariant-loop-i l = Holding l.ss l.out l.last l.i
-
-abbrev pub decreases-loop-i : goal.decreases-loop-i
-decreases-loop-i l = 43 - l.i
+invariant-loop-i l = Holding l.fn.ss l.out l.i

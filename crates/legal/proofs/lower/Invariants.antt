@@ -3,7 +3,4 @@ use Rattle.legal.proofs.Laws.Loops.{Lowering}
 use Rattle.legal.proofs.lower.Given as goal
 
 abbrev pub invariant-loop-i : goal.invariant-loop-i
-invariant-loop-i l = Lowering l.ss l.out l.last l.i
-
-abbrev pub decreases-loop-i : goal.decreases-loop-i
-decreases-loop-i l = l.i
+invariant-loop-i l = Lowering l.fn.ss l.out l.i

@@ -5,10 +5,8 @@ use mathlib.Core.Bool.{Bool, true, false, cond}
 use mathlib.Core.List.{List}
 use Prim.Native.Nat.{ℕ, ◌%◌, ◌+◌, ◌-◌, ◌*◌, ◌≤◌, ◌<◌}
 use native.Mathlib.Omega.{arith}
-use lib.ListN.{length}
-use Rattle.ground.proofs.Laws.FillingLoops.{Filling, filling_done}
 use Rattle.ground.specs.ListsByRule.{table}
-use Rattle.ground.proofs.Laws.ListsByRule.{get_d_table, filled, length_from}
+use Rattle.ground.proofs.Laws.ListsByRule.{get_d_table, filled}
 use Rattle.ground.specs.Sums.{nth}
 use Rattle.contest.specs.Bands.{length_of, competing}
 use Rattle.contest.specs.RaisedContest.{Band, Game, at, contest, begin, fresh}
@@ -20,14 +18,6 @@ use Rattle.levels.proofs.Laws.LastOffers.{without_unfit, thinned_at, thinned_lef
 use Rattle.levels.proofs.Laws.GameAsLists.{state_at, state_left, state_end, state_jump, stepped_rate}
 
 -- ---- the start
-key_low : (wide : Bool) (p height : ℕ) → height ≤ 976 → key_of wide p height ≤ 65535
-unfolding key_of
-key_low wide p height h = go (competing wide p)
-  where
-    go : (b : Bool) → cond b (64 * height + (63 - p) + 2048) 0 ≤ 65535
-    go true = omega arith
-    go false = omega arith
-
 key_low_bits : (wide : Bool) (p height : ℕ) → p < 44 → 0 < key_of wide p height → key_of wide p height % 64 ≡ 63 - p
 unfolding key_of
 key_low_bits wide p height h = go (competing wide p)
@@ -45,25 +35,12 @@ module _ (wide : Bool) (p height : ℕ) where
   unfolding key_of
   key_no t = rw t
 
-pub climbs_long : (keys : List ℕ) (level : ℕ) {start : List ℕ} → start ≡ table 44 (λ p. climb (nth keys p) level) → length start ≡ 44
-climbs_long keys level e = ap length e ∙ length_from (λ p. climb (nth keys p) level) 44 0
-
 module _ (wide : Bool) (heights : List ℕ) where
   key_at : (p : ℕ) → p < 44 → nth (keys_of wide heights) p ≡ key_of wide p (nth heights p)
   unfolding keys_of
   key_at p h = get_d_table (λ p. key_of wide p (nth heights p)) 44 0 p h
 
-  pub room_le : (p : ℕ) → Room heights → p < 44 → nth heights p ≤ 976
-  room_le p r h = (r p h).1
-
-  pub keys_made : {out : List ℕ} {i : ℕ} → Filling 44 (λ p. key_of wide p (nth heights p)) out i → 44 ≤ i → out ≡ keys_of wide heights
-  unfolding keys_of
-  keys_made = filling_done
-
   module _ {keys : List ℕ} (e : keys ≡ keys_of wide heights) where
-    pub keys_low : Room heights → (p : ℕ) → p < 44 → nth keys p ≤ 65535
-    keys_low r p h = rw (e, key_at p h) (key_low wide p (nth heights p) (r p h).1)
-
     pub keys_keyed : Keyed keys
     keys_keyed p h = rw (e, key_at p h) (key_low_bits wide p (nth heights p) h)
 

@@ -21,8 +21,7 @@ use Rattle.contest.specs.RaisedContest.{Band, Game, Readys, at, contest, granted
 use Rattle.contest.proofs.Laws.Ends.{pot_start}
 use Rattle.contest.proofs.Laws.Rounds.{Able}
 use Rattle.contest.proofs.Laws.SharesFairly.{sound_table}
-use Rattle.levels.proofs.Laws.HighestBid.{Best}
-use Rattle.levels.specs.Inner.{bid, bid_at, bill, climb, part, AtStart, spot, state, stepped}
+use Rattle.levels.specs.Inner.{bid, bid_at, bill, climb, part, AtStart, spot, state, stepped, Leading}
 use Rattle.levels.proofs.Laws.LastOffers.{ended, granted_on, offer, offer_in, serve, without_unfit}
 use Rattle.levels.proofs.Laws.GrantedLevel.{cost, costs, count, jump, jumped}
 use Rattle.levels.proofs.Laws.UnfitBands.{band_ext, game_ext}
@@ -112,9 +111,9 @@ module _ (g : Game) (keys : List ℕ) (l : AtStart g keys) where
       ap (λ s. cond (leb s left) (spot p (at (state g rates left).bands p)) 0) (state_size rates left p h)
       ∙ ap (λ x. cond (leb (length_of p) left) x 0) (state_spot rates left p h)
 
-  module _ (rates : List ℕ) (left q : ℕ) (w : length rates ≡ 44) (b : Best (bid_at keys rates left) q) (pos : 0 < bid_at keys rates left q) where
+  module _ (rates : List ℕ) (left q : ℕ) (w : length rates ≡ 44) (b : Leading keys rates left q) where
     pos_offer : 0 < offer (state g rates left) q
-    pos_offer = rw (state_offer rates left q b.inside) pos
+    pos_offer = rw (state_offer rates left q b.inside) b.bids
 
     high_offer : (p : ℕ) → p ≤ 43 → offer (state g rates left) p ≤ offer (state g rates left) q
     high_offer p h = let h' : p < 44 = omega arith in rw (state_offer rates left p h', state_offer rates left q b.inside) (b.high p h')

@@ -2,6 +2,7 @@
 -- Assumes nothing.
 use mathlib.Core.Bool.{Bool, cond, false, true}
 use mathlib.Core.List.{List}
+use mathlib.Core.Logic.{◌⊎◌, ⊎_elim}
 use mathlib.Core.Path.{◌≡◌, refl, sym, ap, ◌∙◌}
 use Prim.Native.Nat.{zero, suc, ◌%◌, ◌*◌, ◌+◌, ◌-◌, ◌<◌, ◌≤◌, ℕ, max}
 use native.Mathlib.Nat.{mul-le-mul, zero-mul, not-suc-le-zero}
@@ -10,13 +11,13 @@ use native.Mathlib.Omega.{arith}
 use borrow.Author.Tests.{eqb-true, eqb-false, le-leb, le-ltb, leb-false, leb-true, lt-leb, lt-ltb, ltb-false, ltb-true}
 use lib.Dec.{leb, ltb, eqb}
 use Rattle.ground.proofs.Laws.Cases.{by_bool}
-use Rattle.ground.specs.ListsByRule.{table}
+use Rattle.ground.specs.ListsByRule.{from, table}
 use Rattle.ground.proofs.Laws.ListsByRule.{get_d_table}
 use Rattle.ground.specs.Sums.{nth}
 use Rattle.ground.proofs.Laws.Sums.{sum_more, sum_nil, sum_none}
 use Rattle.contest.specs.Bands.{length_of}
-use Rattle.levels.specs.Inner.{bid, bid_at, bill, climb, part, highest, Keyed}
-use Rattle.levels.proofs.Laws.HighestBid.{Best}
+use Rattle.levels.specs.declared.TheConstants.{LENGTHS}
+use Rattle.levels.specs.Inner.{bid, bid_at, bill, climb, part, highest, Keyed, Leading}
 
 -- ---- the lengths
 pub lengths_range : (p : ℕ) → (8 ≤ length_of p) × (length_of p ≤ 32)
@@ -29,16 +30,24 @@ lengths_range p = go (ltb p 16) (ltb p 24) (ltb p 36)
     go false false true = (omega arith, omega arith)
     go false false false = (omega arith, omega arith)
 
+-- the code's list computes to the same lengths
+lengths_same : LENGTHS ≡ table 44 length_of
+unfolding from length_of
+lengths_same = refl
+
+pub length_is : (p : ℕ) → p < 44 → nth LENGTHS p ≡ length_of p
+length_is p h = ap (λ (l : List ℕ). nth l p) lengths_same ∙ get_d_table length_of 44 0 p h
+
 -- ---- bids
 module _ (key size rate left : ℕ) where
   bid_yes : size ≤ left → rate < 9 → bid key size rate left ≡ key - 2048 * rate
   unfolding bid
   bid_yes h k = rw (le-leb _ _ h, lt-ltb _ _ k)
 
-  pub bid_made : {r : ℕ} → size ≤ left → rate < 9 → r ≡ key - 2048 * rate → r ≡ bid key size rate left
-  bid_made h k e = e ∙ sym (bid_yes h k)
+  pub bid_made : {m r : ℕ} → size ≤ left → rate < 9 → m ≡ rate → r ≡ key - 2048 * m → r ≡ bid key size rate left
+  bid_made h k em er = er ∙ ap (λ (n : ℕ). key - 2048 * n) em ∙ sym (bid_yes h k)
 
-  pub bid_nine : 9 ≤ rate → bid key size rate left ≡ 0
+  bid_nine : 9 ≤ rate → bid key size rate left ≡ 0
   unfolding bid
   bid_nine h = rw (le-ltb _ _ h) (go (leb size left))
     where
@@ -49,6 +58,9 @@ module _ (key size rate left : ℕ) where
   pub bid_short : left < size → bid key size rate left ≡ 0
   unfolding bid
   bid_short h = rw (lt-leb _ _ h)
+
+  pub bid_none : ((size ≤ left) × (9 ≤ rate)) ⊎ (left < size) → 0 ≡ bid key size rate left
+  bid_none = ⊎_elim (λ h. sym (bid_nine h.1)) (λ h. sym (bid_short h))
 
 -- a bid above 0 fits and is below nine
 pub bid_pos : (key size rate left : ℕ) → 0 < bid key size rate left → (size ≤ left) × (rate < 9)
@@ -116,23 +128,9 @@ bid_low key size rate left m h k =
     let k' : key % 64 ≡ m = k (omega arith) in
     rw e (omega arith)
 
--- what the list of lengths has
-module _ (sizes : List ℕ) (e : sizes ≡ table 44 length_of) (i : ℕ) (h : i < 44) where
-  pub size_at_lem : nth sizes i ≡ length_of i
-  size_at_lem = rw e (get_d_table length_of 44 0 i h)
-
-  part_le : (climbed : ℕ) → climbed ≤ 9 → climbed * nth sizes i ≤ 288
-  part_le climbed k = mul-le-mul {n₁ = climbed} {m₁ = nth sizes i} {n₂ = 9} {m₂ = 32} k (omega (arith, size_at_lem, lengths_range i))
-
-  module _ (climbed : ℕ) (k : climbed ≤ 9) where
-    pub part_fits : climbed * nth sizes i < 65536
-    part_fits = omega (arith, part_le climbed k)
-
-    pub sum_fits : (sum : ℕ) → sum ≤ 288 * i → sum + climbed * nth sizes i < 65536
-    sum_fits sum l = omega (arith, part_le climbed k)
-
-    pub bill_low : (sum : ℕ) → sum ≤ 288 * i → sum + climbed * nth sizes i ≤ 288 * (i + 1)
-    bill_low sum l = omega (arith, part_le climbed k)
+-- a band adds at most 288 to the bill
+pub bill_low : (i climbed size sum : ℕ) → climbed ≤ 9 → size ≤ 32 → sum ≤ 288 * i → sum + climbed * size ≤ 288 * (i + 1)
+bill_low i climbed size sum k h l = omega (arith, mul-le-mul {n₁ = climbed} {m₁ = size} {n₂ = 9} {m₂ = 32} k h)
 
 -- a bid has its band in its lowest six bits
 module _ (keys rates : List ℕ) (left : ℕ) (k : Keyed keys) where
@@ -142,32 +140,21 @@ module _ (keys rates : List ℕ) (left : ℕ) (k : Keyed keys) where
   named : (p : ℕ) → p < 44 → 0 < bid_at keys rates left p → 63 - bid_at keys rates left p % 64 ≡ p
   named p h b = omega (arith, bid_low (nth keys p) (length_of p) (nth rates p) left (63 - p) b (k p h))
 
--- the band that the highest bid names: it can be served, and none bids higher
-pub record Next (keys sizes rates : List ℕ) (left q : ℕ) : Type 0 where
-  pub best : Best (bid_at keys rates left) q
-  pub bids : 0 < bid_at keys rates left q
-  pub sized : nth sizes q ≡ length_of q
-  pub some : 0 < nth sizes q
-  pub fits : nth sizes q ≤ left
-  pub below : nth rates q < 9
-
-pub next : (keys sizes rates : List ℕ) (left top : ℕ) → Keyed keys → sizes ≡ table 44 length_of → top ≡ highest (bid_at keys rates left) 44 → 0 < top
-    → Next keys sizes rates left (63 - top % 64)
-next keys sizes rates left top k es e pos =
+-- the highest bid above 0 names the band that leads
+pub leads_on : (keys rates : List ℕ) (left top : ℕ) → Keyed keys → top ≡ highest (bid_at keys rates left) 44 → 0 < top
+    → Leading keys rates left (63 - top % 64)
+leads_on keys rates left top k e pos =
     let w = highest_at (bid_at keys rates left) (λ n. 63 - n % 64) 44 (named keys rates left k) (rw e at pos) in
-    let q = 63 - highest (bid_at keys rates left) 44 % 64 in
-    let h : 0 < bid_at keys rates left q = omega (arith, w.1) in
-    let f = bid_pos (nth keys q) (length_of q) (nth rates q) left h in
-    let s : nth sizes q ≡ length_of q = size_at_lem sizes es q w.0 in
     rw e
     (record {
-      best = record { inside = w.0; high = λ p b. rw w.1 (highest_ge (bid_at keys rates left) 44 p b) };
-      bids = h;
-      sized = s;
-      some = omega (arith, s, lengths_range q);
-      fits = omega (arith, f, s);
-      below = f.1;
+      inside = w.0;
+      bids = omega (arith, w.1);
+      high = λ p b. rw w.1 (highest_ge (bid_at keys rates left) 44 p b);
     })
+
+-- it fits, and is below nine
+pub leading_fits : (keys rates : List ℕ) (left q : ℕ) → Leading keys rates left q → (length_of q ≤ left) × (nth rates q < 9)
+leading_fits keys rates left q w = bid_pos (nth keys q) (length_of q) (nth rates q) left w.bids
 
 -- less than eight bits serve no one
 pub none_short : (keys rates : List ℕ) (left : ℕ) → left < 8 → (p : ℕ) → p < 44 → bid_at keys rates left p ≡ 0

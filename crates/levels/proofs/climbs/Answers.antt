@@ -1,7 +1,8 @@
--- The offers above the level, place by place. Assumes nothing.
-use Rattle.ground.proofs.Laws.FillingLoops.{filling}
+-- The offers above the level, a call for each band. Assumes nothing.
+use Rattle.std.proofs.Common.{rules}
+use Rattle.ground.proofs.Laws.MadeByCalls.{from_fn_table}
 use Rattle.levels.proofs.climbs.Goals as goal
 
 pub returns : goal.returns
 returns c =
-    search filling
+    from_fn_table c.from_fn.ensures.items (λ i y q l w. search rules)

@@ -3,10 +3,10 @@ use mathlib.Core.Path.{◌∙◌, sym}
 use Rattle.levels.proofs.Laws.ContestEnd.{key_no, key_yes}
 use Rattle.levels.proofs.key_of.Goals as goal
 
-pub returns-then-c : goal.returns-then-c
-returns-then-c c =
+pub returns-then-competes : goal.returns-then-competes
+returns-then-competes c =
     search (key_yes, ◌∙◌, sym)
 
-pub returns-else-c : goal.returns-else-c
-returns-else-c c =
+pub returns-else-competes : goal.returns-else-competes
+returns-else-competes c =
     search (key_no, ◌∙◌, sym)

@@ -1,7 +1,10 @@
--- The spots, place by place. Assumes nothing.
-use Rattle.levels.proofs.Laws.ContestEnd.{keys_made}
+-- The spots, a call for each band. Assumes nothing.
+use Rattle.std.proofs.Common.{rules}
+use Rattle.ground.proofs.Laws.MadeByCalls.{from_fn_table}
+use Rattle.levels.specs.Inner.{keys_of}
 use Rattle.levels.proofs.keys_of.Goals as goal
 
 pub returns : goal.returns
+unfolding keys_of
 returns c =
-    keys_made _ _ c.loop-i.invariant (search)
+    from_fn_table c.from_fn.ensures.items (λ i y q l w. search rules)

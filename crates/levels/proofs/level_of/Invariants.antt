@@ -3,8 +3,5 @@ use Prim.Native.Nat.{◌≤◌}
 use Rattle.levels.specs.Inner.{bill}
 use Rattle.levels.proofs.level_of.Given as goal
 
-abbrev pub invariant-loop-step : goal.invariant-loop-step
-invariant-loop-step l = bill l.keys l.level 44 ≤ l.budget
-
-abbrev pub decreases-loop-step : goal.decreases-loop-step
-decreases-loop-step l = l.step
+abbrev pub invariant-loop-bit : goal.invariant-loop-bit
+invariant-loop-bit l = bill l.keys l.level 44 ≤ l.budget

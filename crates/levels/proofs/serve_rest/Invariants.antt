@@ -2,8 +2,8 @@
 use Rattle.levels.proofs.Laws.Serving.{Serving}
 use Rattle.levels.proofs.serve_rest.Given as goal
 
-abbrev pub invariant-loop-left : goal.invariant-loop-left
-invariant-loop-left l = Serving l.keys l.initial.rates l.initial.left l.rates l.left
+abbrev pub invariant-loop-q : goal.invariant-loop-q
+invariant-loop-q l = Serving l.keys l.initial.rates l.initial.left l.rates l.left
 
-abbrev pub decreases-loop-left : goal.decreases-loop-left
-decreases-loop-left l = l.left
+abbrev pub decreases-loop-q : goal.decreases-loop-q
+decreases-loop-q l = l.left

@@ -7,9 +7,9 @@ use Rattle.lister.proofs.write_listing.Goals as goal
 
 pub slice_bounds-out-end : goal.slice_bounds-out-end
 slice_bounds-out-end c =
-    omega (arith, listed_within _ _ c.list-listed.result c.list-listed.ensures.0)
+    omega (arith, listed_within _ _ c.list.ensures.0 c.in-Ok.is)
 
 pub slice_bounds-write_out-end : goal.slice_bounds-write_out-end
 slice_bounds-write_out-end c =
-    let w = listed_within _ _ c.list-listed.result c.list-listed.ensures.0 in
-    sym (length-take-le c.list-listed.result.length c.list-listed.new.out (omega arith))
+    let w = listed_within _ _ c.list.ensures.0 c.in-Ok.is in
+    sym (length-take-le c.in-Ok.n c.list.new.out (omega arith))

@@ -9,12 +9,12 @@ returns-then-out-lt-ROOM c =
 
 pub returns-then-too_long : goal.returns-then-too_long
 returns-then-too_long c =
-    long_laid _ _ (omega arith) (omega arith) c.put-n.ensures
+    long_laid _ _ (omega arith) (omega arith) c.put.ensures
 
-pub put_total-n-requires : goal.put_total-n-requires
-put_total-n-requires c =
-    total_room c.put_lines-all.ensures (omega arith) (omega arith)
+pub put_total-requires : goal.put_total-requires
+put_total-requires c =
+    total_room c.put_lines-next.ensures (omega arith) (omega arith)
 
 pub returns : goal.returns
 returns c =
-    total_laid c.put_lines-all.ensures (omega arith) (omega arith) c.put_total-n.ensures
+    total_laid c.put_lines-next.ensures (omega arith) (omega arith) c.put_total.ensures

@@ -1,37 +1,39 @@
 -- `listing::put_lines` meets its contract: each step puts its line behind the lines so far. Assumes nothing.
-use mathlib.Core.Path.{sym, subst}
 use native.Mathlib.Omega.{arith}
 use Rattle.recording.proofs.Laws.Blocks.{one_told}
-use Rattle.listing.specs.Inner.{Complete}
-use Rattle.listing.proofs.Laws.Listed.{at_step, listed_none, listed_inside, listed_room, listed_end, listed_more}
+use Rattle.listing.proofs.Laws.Listed.{listed_none, listed_inside, listed_room, listed_done, listed_end, listed_more}
 use Rattle.listing.proofs.put_lines.Goals as goal
 
-pub loop-one-init : goal.loop-one-init
-loop-one-init c =
+pub loop-bytes-init : goal.loop-bytes-init
+loop-bytes-init c =
     listed_none
 
-pub put_step-next-requires : goal.put_step-next-requires
-put_step-next-requires c =
-    let told = at_step c.loop-one.invariant (one_told _ _ c.step-one.ensures) in
-    (omega (arith, c.requires.0, listed_inside told), omega (arith, listed_room told c.requires.1))
-
-pub returns-then-one-eq0 : goal.returns-then-one-eq0
-returns-then-one-eq0 c =
-    let told = at_step c.loop-one.invariant (one_told _ _ c.step-one.ensures) in
-    subst (Complete c.args.src.now c.args.out.now c.put_step-next.new.out) (sym c.made_lines.ensures)
-    (listed_end told c.put_step-next.ensures (omega arith))
+pub put_sound-next-requires : goal.put_sound-next-requires
+put_sound-next-requires c =
+    listed_room c.loop-bytes.invariant (one_told _ _ (rw c.in-Ok-Some.field-0-is at c.in-Ok-Some.ensures)) c.requires.1
 
 pub overflow_add-place : goal.overflow_add-place
 overflow_add-place c =
-    let told = at_step c.loop-one.invariant (one_told _ _ c.step-one.ensures) in
-    omega (arith, (listed_more told c.put_step-next.ensures (λ e. omega arith)).walked.inside)
+    let inside = listed_inside c.loop-bytes.invariant (one_told _ _ (rw c.in-Ok-Some.field-0-is at c.in-Ok-Some.ensures)) in
+    omega (arith, inside)
 
-pub loop-one-smaller : goal.loop-one-smaller
-loop-one-smaller c =
-    let told = at_step c.loop-one.invariant (one_told _ _ c.step-one.ensures) in
-    omega (arith, (listed_more told c.put_step-next.ensures (λ e. omega arith)).walked.inside)
+pub loop-bytes-smaller : goal.loop-bytes-smaller
+loop-bytes-smaller c =
+    let inside = listed_inside c.loop-bytes.invariant (one_told _ _ (rw c.in-Ok-Some.field-0-is at c.in-Ok-Some.ensures)) in
+    omega (arith, inside)
 
-pub loop-one-preserved : goal.loop-one-preserved
-loop-one-preserved c =
-    let told = at_step c.loop-one.invariant (one_told _ _ c.step-one.ensures) in
-    listed_more told c.put_step-next.ensures (λ e. omega arith)
+pub loop-bytes-preserved : goal.loop-bytes-preserved
+loop-bytes-preserved c =
+    listed_more c.loop-bytes.invariant (one_told _ _ (rw c.in-Ok-Some.field-0-is at c.in-Ok-Some.ensures)) c.put_sound-next.ensures
+
+pub put_refused-next-requires : goal.put_refused-next-requires
+put_refused-next-requires c =
+    listed_room c.loop-bytes.invariant (one_told _ _ c.in-Err.ensures) c.requires.1
+
+pub returns-in-Ok-None : goal.returns-in-Ok-None
+returns-in-Ok-None c =
+    listed_done c.loop-bytes.invariant (one_told _ _ (rw c.in-Ok-None.field-0-is at c.in-Ok-None.ensures))
+
+pub returns-in-Err : goal.returns-in-Err
+returns-in-Err c =
+    rw c.into-reply.ensures (listed_end c.loop-bytes.invariant (one_told _ _ c.in-Err.ensures) c.put_refused-next.ensures)

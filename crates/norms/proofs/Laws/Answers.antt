@@ -1,16 +1,18 @@
 -- The norms' causes by their tests, the FlagN choice, and that 0 is answered exactly for legal norms.
 -- Assumes nothing.
 use mathlib.Core.Path.{◌≡◌, sym, ap}
-use mathlib.Core.Bool.{Bool, false}
+use mathlib.Core.Bool.{Bool, true, false}
 use mathlib.Core.List.{List}
-use Prim.Native.Nat.{ℕ, ◌≤◌}
+use Prim.Native.Nat.{ℕ, ◌≤◌, ◌<◌}
 use lib.Dec.{ltb, eqb}
 use lib.ListN.{length, get_or}
 use native.Mathlib.Omega.{arith}
-use borrow.Author.Tests.{not-false, ltb-false, eq-eqb, ne_eqb, eqb-true}
+use borrow.Author.Tests.{not-false, ltb-false, lt-leb, le-leb, eq-eqb, ne_eqb, eqb-true}
+use Rattle.ground.specs.Indices.{in_range}
+use Rattle.norms.specs.Steps.{steps_close}
 use Rattle.ground.proofs.Laws.Cases.{by_bool}
 use Rattle.ground.proofs.Laws.Indices.{range_yes, range_at}
-use Rattle.ground.specs.Replies.{done}
+use Rattle.ground.specs.Replies.{done, out_of_range, far_apart}
 use Rattle.ground.proofs.Laws.Refusals.{first_none, by_rows}
 use Rattle.order.specs.SentOrder.{sent}
 use Rattle.order.proofs.Laws.SentOrder.{length_sent, sent_first, sent_each}
@@ -45,16 +47,37 @@ module _ (transient : Bool) (norms : List ℕ) where
   unfolding choice_of
   choice_yes r n e z q = chosen_yes e z (ap (λ (k : ℕ). ltb k 215) q)
 
+-- ---- the reply by the tests in 01's order
+
+module _ (transient : Bool) (norms : List ℕ) where
+  pub reply_range : in_range norms 44 ≡ false → norm_reply transient norms ≡ out_of_range
+  unfolding norm_causes
+  reply_range r = sym (search by_rows)
+
+  pub reply_first : in_range norms 44 ≡ true → 31 < get_or norms 0 0 → norm_reply transient norms ≡ out_of_range
+  unfolding norm_causes
+  reply_first r h = sym (search by_rows)
+
+  pub reply_far : in_range norms 44 ≡ true → get_or norms 0 0 ≤ 31 → steps_close (sent transient norms) ≡ false → norm_reply transient norms ≡ far_apart
+  unfolding norm_causes
+  reply_far r h c = sym (search by_rows)
+
+  pub reply_none : in_range norms 44 ≡ true → get_or norms 0 0 ≤ 31 → steps_close (sent transient norms) ≡ true → norm_reply transient norms ≡ done
+  unfolding norm_causes
+  reply_none r h c = sym (search by_rows)
+
+-- what closes the returns of the code's tests
+pub ruleset by_tests = (reply_range, reply_first, reply_far, reply_none, lt-leb, le-leb)
+
 -- ---- the reply is 0 exactly for legal norms
 
 module _ (transient : Bool) (norms : List ℕ) (l : length norms ≡ 44) where
   pub reply_legal : LegalNorms transient norms → norm_reply transient norms ≡ done
-  unfolding norm_causes
   reply_legal w =
       let range = range_yes norms 44 (legal_range transient norms w) in
       let low : get_or norms 0 0 ≤ 31 = omega (arith, sent_first transient norms, w.as_sent.first) in
       let close = steps_near (sent transient norms) (sent_near transient norms w) in
-      sym (search by_rows)
+      reply_none transient norms range low close
 
   pub legal_reply : norm_reply transient norms ≡ done → LegalNorms transient norms
   unfolding norm_causes

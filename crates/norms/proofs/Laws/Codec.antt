@@ -63,7 +63,7 @@ kinds_long flag_n = refl
 module _ (transient flag_n : Bool) where
   bands_fine : (c : Verdict (List ℕ)) (norms : List ℕ) → in_bands transient c ≡ fine norms → (ss : List ℕ) × (c ≡ fine ss) × (banded transient ss ≡ norms)
   bands_fine (fine ss) norms e = (ss, refl, (cc))
-  bands_fine (bad x) norms e = absurd (let z : ◌≡◌ {A = ℕ} 0 1 = cc in omega arith)
+  bands_fine (bad x) norms e = absurd (cc)
 
   pub norms_sound : (ws norms : List ℕ) → (words (map coding (norm_kinds flag_n))).Ok ws → norms_of transient ws ≡ fine norms
       → (numbers_of transient norms ≡ ws) × LegalNorms transient norms

@@ -7,13 +7,14 @@ use Prim.Native.Nat.{ℕ, suc, ◌+◌, ◌-◌, ◌≤◌, ◌<◌}
 use native.Mathlib.Omega.{arith}
 use native.Mathlib.Numerals.{add-one}
 use lib.Dec.{leb}
-use lib.ListN.{length, get_or, take, drop, set, replicate, length-set, drop_of_length-le, take-append-drop}
+use lib.ListN.{length, get_or, take, drop, set, length-set, drop_of_length-le, take-append-drop}
 use lib.Seq.{drop-cons, take-suc-set}
-use borrow.Author.Tests.{lt-leb, le-leb}
+use borrow.Author.Tests.{lt-leb, le-leb, leb-true}
+use Rattle.ground.proofs.Laws.Cases.{by_bool}
+use Rattle.std.specs.declared.option.Option.TheVariants.{Some, None}
 use Rattle.bits.specs.Codecs.{Verdict, fine, bad}
 use Rattle.bits.specs.declared.Refusal.TheVariants.{Outside}
 use Rattle.ground.proofs.Laws.ListsByRule.{filled}
-use Rattle.ground.proofs.Laws.ListsByRule.{fill}
 use Rattle.norms.specs.Steps.{indices, numbers, guarded, close, steps_close}
 use Rattle.norms.specs.Inner.{indices_of}
 use Rattle.norms.proofs.Laws.Steps.{number_at, numbers_table}
@@ -39,9 +40,6 @@ pub record Stepping (ws out : List ℕ) (x i : ℕ) : Type 0 where
   pub said : indices 15 ws ≡ onto (take i out) (indices x (drop i ws))
 
 module _ {ws : List ℕ} where
-  pub step_start : Stepping ws (replicate 44 0) 15 0
-  step_start = record { upto = omega arith; long = refl; small = omega arith; said = onto_nil (indices 15 ws) }
-
   module _ {out : List ℕ} {x i : ℕ} (I : Stepping ws out x i) (l : length ws ≡ 44) where
     module _ (h : i < 44) {z : ℕ} (e : z ≡ get_or ws i 0) where
       one : indices x (drop i ws) ≡ guarded (leb 15 (x + z)) (leb (x + z) 54) (x + z - 15) (indices (x + z - 15) (drop (suc i) ws))
@@ -50,16 +48,11 @@ module _ {ws : List ℕ} where
           ap (indices x) (drop-cons ws i 0 (omega arith))
           ∙ ap (λ (w : ℕ). guarded (leb 15 (x + w)) (leb (x + w) 54) (x + w - 15) (indices (x + w - 15) (drop (suc i) ws))) (sym e)
 
-      pub step_low : x + z < 15 → record { sound = false; norms = replicate 44 0 } ≡ indices_of (indices 15 ws)
-      step_low a =
+      pub step_out : (15 ≤ x + z → 54 < x + z) → None ≡ indices_of (indices 15 ws)
+      step_out o =
           let y = x + z in
-          let q : guarded (leb 15 y) (leb y 54) (y - 15) (indices (y - 15) (drop (suc i) ws)) ≡ bad Outside = rw (lt-leb 15 y a) in
-          sym (ap indices_of (I.said ∙ ap (onto (take i out)) (one ∙ q)))
-
-      pub step_high : 15 ≤ x + z → 54 < x + z → record { sound = false; norms = replicate 44 0 } ≡ indices_of (indices 15 ws)
-      step_high a b =
-          let y = x + z in
-          let q : guarded (leb 15 y) (leb y 54) (y - 15) (indices (y - 15) (drop (suc i) ws)) ≡ bad Outside = rw (le-leb 15 y a, lt-leb y 54 b) in
+          let q : guarded (leb 15 y) (leb y 54) (y - 15) (indices (y - 15) (drop (suc i) ws)) ≡ bad Outside =
+          by_bool (leb 15 y) (λ t. rw (t, lt-leb y 54 (o (leb-true 15 y t)))) (λ t. rw t) in
           sym (ap indices_of (I.said ∙ ap (onto (take i out)) (one ∙ q)))
 
       pub step_turn : 15 ≤ x + z → x + z ≤ 54 → Stepping ws (set out i (x + z - 15)) (x + z - 15) (i + 1)
@@ -80,7 +73,7 @@ module _ {ws : List ℕ} where
                 ∙ ap₂ (λ (u : List ℕ) (k : ℕ). onto u (indices (y - 15) (drop k ws))) front (sym (add-one i));
           }
 
-    pub step_end : 44 ≤ i → record { sound = true; norms = out } ≡ indices_of (indices 15 ws)
+    pub step_end : 44 ≤ i → Some out ≡ indices_of (indices 15 ws)
     unfolding indices
     step_end h =
         let t : take i out ≡ out =
@@ -100,19 +93,7 @@ pub record Numbering (ss out : List ℕ) (x i : ℕ) : Type 0 where
   pub said : (k : ℕ) → k < i → get_or out k 0 ≡ number_at ss k
 
 module _ {ss : List ℕ} where
-  pub number_start : Numbering ss (replicate 44 0) 15 0
-  number_start = record { upto = omega arith; long = refl; last = refl; said = λ k h. absurd (omega arith) }
-
   module _ {out : List ℕ} {x i : ℕ} (I : Numbering ss out x i) where
-    pub number_turn : {y v : ℕ} → i < 44 → y ≡ get_or ss i 0 → v ≡ y + 15 - x → Numbering ss (set out i v) y (i + 1)
-    number_turn {y} {v} h ey ev =
-        record {
-          upto = omega arith;
-          long = length-set out i v ∙ I.long;
-          last = ey ∙ ap (λ (k : ℕ). get_or (15 ∷ ss) k 0) (sym (add-one i));
-          said = fill (number_at ss) 0 out i v (omega (arith, I.long)) I.said (ev ∙ ap₂ (λ (u w : ℕ). u + 15 - w) ey I.last);
-        }
-
     pub number_end : length ss ≡ 44 → 44 ≤ i → out ≡ numbers 15 ss
     number_end l h = filled (number_at ss) 44 0 out I.long (λ k b. I.said k (omega arith)) ∙ sym (numbers_table ss l)
 

@@ -29,14 +29,6 @@ use Rattle.norms.proofs.Laws.Steps.{length_numbers}
 use Rattle.norms.proofs.Laws.Codec.{kinds_long, norms_whole}
 use Rattle.bits.proofs.Laws.Codecs.{fit_length}
 
-pub kinds_plain : (flag_n : Bool) → flag_n ≡ false → replicate 44 5 ≡ norm_kinds flag_n
-unfolding norm_kinds
-kinds_plain flag_n e = rw e
-
-pub kinds_words : (flag_n : Bool) → flag_n ≡ true → 5 ∷ replicate 43 20 ≡ norm_kinds flag_n
-unfolding norm_kinds
-kinds_words flag_n e = rw e
-
 -- ---- the bits as the code makes them: kinds, sent order, numbers
 
 module _ {ks ss ws : List ℕ} (t f : Bool) (norms : List ℕ) (ek : ks ≡ norm_kinds f) (es : ss ≡ sent t norms) (ew : ws ≡ numbers 15 ss) where

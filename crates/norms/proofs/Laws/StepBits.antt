@@ -1,7 +1,7 @@
 -- The differences' words counted step by step, with the test that none of the differences is too far.
 -- Assumes nothing.
 use mathlib.Core.Path.{◌≡◌, refl, sym, ap, ap₂, ◌∙◌}
-use mathlib.Core.Bool.{Bool, true, false}
+use mathlib.Core.Bool.{Bool, false}
 use mathlib.Core.List.{List, [], ◌∷◌, map}
 use Prim.Native.Nat.{ℕ, suc, ◌+◌, ◌-◌, ◌*◌, ◌≤◌, ◌<◌, max}
 use native.Mathlib.Omega.{arith}
@@ -9,7 +9,9 @@ use native.Mathlib.Numerals.{add-one}
 use lib.Dec.{leb, ltb}
 use lib.ListN.{length, get_or, drop, replicate, length-append, drop_of_length-le}
 use lib.Seq.{drop-cons}
-use borrow.Author.Tests.{lt-leb, le-leb, leb-true, leb-false, ltb-true, ltb-false}
+use Rattle.std.proofs.lemmas.List.{get_or-take, get_or-drop, drop-drop, length-drop}
+use lib.ListN.{take}
+use borrow.Author.Tests.{leb-true, leb-false, ltb-true, ltb-false}
 use Rattle.ground.proofs.Laws.Cases.{by_bool}
 use Rattle.bits.specs.Codings.{word_of}
 use Rattle.bits.specs.Codecs.{write_all}
@@ -107,24 +109,41 @@ module _ {ss : List ℕ} {far more lost i : ℕ} (I : Counting ss far more lost 
       let ys = drop (i + 1) ss in
       omega (arith, I.said, I.upto, words_none (get_or ss i 0) ys (ap length (drop_of_length-le ss {i = i + 1} (omega arith))))
 
-  pub count_fits : {m b : ℕ} → (m ≡ more) × (m < 256) → (b ≡ lost) × (b < 256) → 7 * b ≤ 129 + m
-  count_fits em eb = omega (arith, all_counted, em.0, eb.0)
+  pub count_fits : {m b : ℕ} → m ≡ more → b ≡ lost → 7 * b ≤ 129 + m
+  count_fits em eb = omega (arith, all_counted)
 
-  pub counted : {m b : ℕ} → (m ≡ more) × (m < 256) → (b ≡ lost) × (b < 256)
+  pub counted : {m b : ℕ} → m ≡ more → b ≡ lost
       → (leb far 15 ≡ steps_close ss) × (129 + m - 7 * b ≡ step_total ss) × (129 + m - 7 * b ≤ 301)
   counted em eb =
       let told = by_bool (leb far 15) (λ t. t ∙ sym (close_end ss i (I.near (leb-true far 15 t)) l h)) (λ t. t ∙ sym (I.past (leb-false far 15 t))) in
-      (told, omega (arith, all_counted, em.0, eb.0), omega (arith, I.few, I.upto, em.0))
+      (told, omega (arith, all_counted), omega (arith, I.few, I.upto))
+
+-- ---- the windows of two that are left before place i, and how they go on
+
+pub record Pairs (ss rest : List ℕ) (size i : ℕ) : Type 0 where
+  pub two : size ≡ 2
+  pub left : rest ≡ drop i ss
+
+module _ {ss rest : List ℕ} {size i : ℕ} (P : Pairs ss rest size i) where
+  pub pairs_next : {rest' : List ℕ} {size' : ℕ} → size' ≡ size → rest' ≡ drop 1 rest → Pairs ss rest' size' (i + 1)
+  pairs_next s e = record { two = s ∙ P.two; left = e ∙ ap (drop 1) P.left ∙ drop-drop 1 i ss }
+
+  pub pairs_on : length ss ≡ 44 → size ≤ length rest → i < 43
+  pairs_on l h = omega (arith, P.two, ap length P.left, length-drop i ss)
+
+  pub pairs_end : length ss ≡ 44 → length rest < size → 43 ≤ i
+  pairs_end l h = omega (arith, P.two, ap length P.left, length-drop i ss)
+
+  pub pair_first : {pair : List ℕ} → pair ≡ take size rest → get_or pair 0 0 ≡ get_or ss i 0
+  pair_first e =
+      let z : i + 0 ≡ i = omega arith in
+      rw (e, P.two, P.left) (get_or-take 2 (drop i ss) 0 0 (omega arith) ∙ get_or-drop i ss 0 0 ∙ ap (λ (k : ℕ). get_or ss k 0) z)
+
+  pub pair_second : {pair : List ℕ} → pair ≡ take size rest → get_or pair 1 0 ≡ get_or ss (i + 1) 0
+  pair_second e = rw (e, P.two, P.left) (get_or-take 2 (drop i ss) 1 0 (omega arith) ∙ get_or-drop i ss 1 0)
 
 -- ---- what the count of a list tells of norms whose sent order it is
 
 module _ {list ss : List ℕ} (far bits : ℕ) (e : list ≡ ss) (p : (leb far 15 ≡ steps_close list) × (bits ≡ step_total list) × (bits ≤ 301)) where
   pub counted_sent : (leb far 15 ≡ steps_close ss) × (bits ≡ step_total ss) × (bits ≤ 301)
   counted_sent = (p.0 ∙ ap steps_close e, p.1 ∙ ap step_total e, p.2)
-
-module _ (ss : List ℕ) (far : ℕ) (p : leb far 15 ≡ steps_close ss) where
-  pub steps_far : 15 < far → steps_close ss ≡ false
-  steps_far h = sym p ∙ lt-leb far 15 h
-
-  pub steps_near : far ≤ 15 → steps_close ss ≡ true
-  steps_near h = sym p ∙ le-leb far 15 h

@@ -29,9 +29,9 @@ Below (w ∷ ws) = (w < 32) × Below ws
 guarded_fine : (a b : Bool) (y : ℕ) (c : Verdict (List ℕ)) (zs : List ℕ) → guarded a b y c ≡ fine zs
     → (ys : List ℕ) × (a ≡ true) × (b ≡ true) × (c ≡ fine ys) × (y ∷ ys ≡ zs)
 guarded_fine true true y (fine ys) zs e = (ys, refl, refl, refl, (cc))
-guarded_fine true true y (bad k) zs e = absurd (let z : ◌≡◌ {A = ℕ} 0 1 = cc in omega arith)
-guarded_fine true false y c zs e = absurd (let z : ◌≡◌ {A = ℕ} 0 1 = cc in omega arith)
-guarded_fine false t y c zs e = absurd (let z : ◌≡◌ {A = ℕ} 0 1 = cc in omega arith)
+guarded_fine true true y (bad k) zs e = absurd (cc)
+guarded_fine true false y c zs e = absurd (cc)
+guarded_fine false t y c zs e = absurd (cc)
 
 pub indices_sound : (x : ℕ) (ws zs : List ℕ) → Below ws → indices x ws ≡ fine zs → (numbers x zs ≡ ws) × Near x zs
 unfolding indices numbers

@@ -1,10 +1,6 @@
 -- `norms::indices_of` meets its contract: the indices so far, and those of the numbers that are left. Assumes nothing.
-use Prim.Native.Nat.{◌-◌}
 use Rattle.norms.proofs.Laws.Loops.{Stepping}
 use Rattle.norms.proofs.indices_of.Given as goal
 
 abbrev pub invariant-loop-i : goal.invariant-loop-i
-invariant-loop-i l = Stepping l.ws l.norms l.x l.i
-
-abbrev pub decreases-loop-i : goal.decreases-loop-i
-decreases-loop-i l = 44 - l.i
+invariant-loop-i l = Stepping l.fn.ws l.norms l.x l.i

@@ -4,16 +4,16 @@ use Rattle.order.specs.SentOrder.{places}
 use Rattle.order.proofs.Laws.SentOrder.{place_band, banded_plain, banded_turned}
 use Rattle.order.proofs.band_order.Goals as goal
 
-pub returns-then-not-transient : goal.returns-then-not-transient
-returns-then-not-transient c =
-    banded_plain c.args.transient c.args.ss c.if-not-transient.true
+pub returns-else-transient : goal.returns-else-transient
+returns-else-transient c =
+    banded_plain c.args.transient c.args.ss c.if-transient.false
 
 pub reordered-requires : goal.reordered-requires
 unfolding places
 reordered-requires c =
     (refl, λ k h. (place_band k h).inside)
 
-pub returns : goal.returns
+pub returns-then-transient : goal.returns-then-transient
 unfolding places
-returns c =
-    c.reordered.ensures ∙ banded_turned c.args.transient c.args.ss c.if-not-transient.false
+returns-then-transient c =
+    c.reordered.ensures ∙ banded_turned c.args.transient c.args.ss c.if-transient.true

@@ -11,13 +11,15 @@ use borrow.Author.Tests.{eq-eqb, ne_eqb, lt-ltb, le-ltb, ltb-true, ltb-false, eq
 use Rattle.ground.proofs.Laws.Cases.{by_bool}
 use Rattle.prefix.specs.Sizes.{Size, no_body, not_given, sized, table_a2, length_of}
 use Rattle.prefix.proofs.Laws.Sizes.{a2_none, a2_low, a2_high, a2_sized, same_size, length_mode, no_length}
-use Rattle.prefix.specs.declared.NamedField.{NamedField}
-use Rattle.prefix.specs.declared.NamedField.TheVariants as named-field
+use Rattle.std.specs.declared.option.Option.{Option}
+use Rattle.std.specs.declared.option.Option.TheVariants.{Some, None}
+use Rattle.std.specs.declared.result.Result.{Result}
+use Rattle.std.specs.declared.result.Result.TheVariants.{Ok, Err}
+use Rattle.ground.specs.declared.replies.Reply.{Reply}
+use Rattle.ground.specs.declared.replies.Reply.TheVariants.{OutOfRange}
 use Rattle.prefix.specs.declared.Length.{Length}
 use Rattle.prefix.specs.declared.Prefix.{Prefix}
 use Rattle.prefix.specs.declared.Prefix.TheVariants.{Data, NoData, NoByte, Marked, Reserved}
-use Rattle.prefix.specs.declared.Byte.{Byte}
-use Rattle.prefix.specs.declared.Byte.TheVariants.{Is, OutOfRange}
 use Rattle.prefix.specs.Prefix.{field_f, field_l, byte_with, said, prefix_byte, prefix_of, byte_of, zero_r}
 
 abbrev pub field_r : ℕ → ℕ
@@ -80,6 +82,9 @@ read_high s h b l = read_said s h b ∙ said_high _ l
 pub read_data : (s : List ℕ) → 0 < length s → get_or s 0 0 < 128 → 8 ≤ get_or s 0 0 / 4 → get_or s 0 0 / 4 ≤ 27 → prefix_of s ≡ Data (record { 0 = get_or s 0 0 / 4 })
 read_data s h b p l = read_said s h b ∙ said_data _ p l
 
+-- what closes the code's tests of a byte
+pub ruleset by_byte = (read_none, read_marked, read_no_data, read_low, read_high, read_data)
+
 -- R is ignored: bytes that agree in F and L say the same
 pub r_ignored : (f l r q : ℕ) → l < 32 → r < 4 → q < 4 → prefix_byte (byte_with f l r) ≡ prefix_byte (byte_with f l q)
 unfolding prefix_byte
@@ -95,30 +100,38 @@ read_written m s h =
     let e : b / 4 ≡ m + 8 = omega arith in
     read_some (b ∷ s) (omega arith) ∙ byte_said b (omega arith) ∙ ap (λ (l : ℕ). said (table_a2 l) l) e ∙ said_data (m + 8) (omega arith) (omega arith)
 
-pub byte_mode : (m : ℕ) → m < 20 → byte_of m ≡ Is (byte_with 0 (m + 8) 0)
+pub byte_mode : (m : ℕ) → m < 20 → byte_of m ≡ Ok (byte_with 0 (m + 8) 0)
 unfolding byte_of
 byte_mode m h = rw (lt-ltb m 20 h)
 
-pub byte_none : (m : ℕ) → 19 < m → byte_of m ≡ OutOfRange
+pub byte_none : (m : ℕ) → 19 < m → byte_of m ≡ Err OutOfRange
 unfolding byte_of
 byte_none m h = rw (le-ltb m 20 h)
 
 -- the byte of the field L that names the mode's size
-abbrev pub byte_named : NamedField → Byte
-byte_named named-field.None = OutOfRange
-byte_named (named-field.Is f) = Is (f.0 * 4)
+abbrev pub byte_named : Option Length → Result ℕ Reply
+byte_named None = Err OutOfRange
+byte_named (Some f) = Ok (f.0 * 4)
 
 pub byte_named_lem : (m : ℕ) → byte_of m ≡ byte_named (length_of m)
 byte_named_lem m =
     by_bool (ltb m 20)
-    (λ t. let h = ltb-true m 20 t in byte_mode m h ∙ (let e : byte_with 0 (m + 8) 0 ≡ (m + 8) * 4 = omega arith in ap Is e)
+    (λ t. let h = ltb-true m 20 t in byte_mode m h ∙ (let e : byte_with 0 (m + 8) 0 ≡ (m + 8) * 4 = omega arith in ap Ok e)
     ∙ sym (ap byte_named (length_mode m h)))
     (λ t. let h = ltb-false m 20 t in byte_none m h ∙ sym (ap byte_named (no_length m h)))
 
+pub byte_some : (m : ℕ) (f : Length) → length_of m ≡ Some f → byte_of m ≡ Ok (4 * f.0)
+byte_some m f e =
+    let q : f.0 * 4 ≡ 4 * f.0 = omega arith in
+    byte_named_lem m ∙ ap byte_named e ∙ ap Ok q
+
+pub byte_err : (m : ℕ) → length_of m ≡ None → byte_of m ≡ Err OutOfRange
+byte_err m e = byte_named_lem m ∙ ap byte_named e
+
 -- a prefix that says data has F 0, and its field L is 8 to 27
 said_sized : (z : Size) (l : ℕ) (f : Length) → table_a2 l ≡ z → said z l ≡ Data f → (8 ≤ f.0) × (f.0 ≤ 27) × (l ≡ f.0)
-said_sized no_body l f q e = absurd (let z : ◌≡◌ {A = ℕ} 0 1 = cc in omega arith)
-said_sized not_given l f q e = absurd (let z : ◌≡◌ {A = ℕ} 0 1 = cc in omega arith)
+said_sized no_body l f q e = absurd (cc)
+said_sized not_given l f q e = absurd (cc)
 said_sized (sized n) l f q e =
     let g : ◌≡◌ {A = Length} (record { 0 = l }) f = cc in
     let h : l ≡ f.0 = ap (λ (x : Length). x.0) g in
@@ -126,8 +139,8 @@ said_sized (sized n) l f q e =
     (omega (arith, r.0), omega (arith, r.1), h)
 
 pick_data : (a b : Bool) (p : Prefix) (f : Length) → cond a NoByte (cond b Marked p) ≡ Data f → (b ≡ false) × (p ≡ Data f)
-pick_data true b p f e = absurd (let z : ◌≡◌ {A = ℕ} 0 1 = cc in omega arith)
-pick_data false true p f e = absurd (let z : ◌≡◌ {A = ℕ} 0 1 = cc in omega arith)
+pick_data true b p f e = absurd (cc)
+pick_data false true p f e = absurd (cc)
 pick_data false false p f e = (refl, e)
 
 pub prefix_data : (s : List ℕ) (f : Length) → prefix_of s ≡ Data f → (8 ≤ f.0) × (f.0 ≤ 27)

@@ -11,10 +11,8 @@ use Rattle.ground.proofs.Laws.Cases.{by_bool, and_T}
 use Rattle.ground.proofs.Laws.PrintedTables.{every, every_at}
 use Rattle.prefix.specs.declared.Mode.{Mode}
 use Rattle.prefix.specs.declared.Length.{Length}
-use Rattle.prefix.specs.declared.NamedField.{NamedField}
-use Rattle.prefix.specs.declared.NamedField.TheVariants as named-field
-use Rattle.prefix.specs.declared.NamedMode.{NamedMode}
-use Rattle.prefix.specs.declared.NamedMode.TheVariants as named-mode
+use Rattle.std.specs.declared.option.Option.{Option}
+use Rattle.std.specs.declared.option.Option.TheVariants.{Some, None}
 use Rattle.prefix.specs.Sizes.{table22, Size, no_body, not_given, sized, table_a2, bytes_in, mode_bytes, length_bytes, length_of, named, mode_of}
 
 -- ---- Table A.2 by its rows
@@ -40,7 +38,7 @@ unfolding table_a2
 a2_twenty l p h = rw (ne_eqb l 0 (λ e. omega arith), le-ltb l 8 (omega arith), lt-leb l 22 p, le-leb l 27 h)
 
 -- no body is named below 8
-pub a2_below : (l : ℕ) → l < 8 → (length_bytes l ≡ 0) × (mode_of l ≡ named-mode.None)
+pub a2_below : (l : ℕ) → l < 8 → (length_bytes l ≡ 0) × (mode_of l ≡ None)
 unfolding length_bytes mode_of
 a2_below zero h = (ap bytes_in a2_none, ap (λ (z : Size). named z 0) a2_none)
 a2_below (suc l) h =
@@ -48,7 +46,7 @@ a2_below (suc l) h =
     (ap bytes_in e, ap (λ (z : Size). named z (suc l)) e)
 
 -- nor from 28 on
-pub a2_above : (l : ℕ) → 27 < l → (length_bytes l ≡ 0) × (mode_of l ≡ named-mode.None)
+pub a2_above : (l : ℕ) → 27 < l → (length_bytes l ≡ 0) × (mode_of l ≡ None)
 unfolding length_bytes mode_of
 a2_above l h = let e = a2_high l h in (ap bytes_in e, ap (λ (z : Size). named z l) e)
 
@@ -59,7 +57,7 @@ a2_sized l n e =
     (λ t. by_bool (leb l 27) (λ u. (ltb-false l 8 t, leb-true l 27 u)) (λ u. absurd (never (a2_high l (leb-false l 27 u)) e)))
   where
     never : {z : Size} → z ≡ not_given → z ≡ sized n → ⊥
-    never p q = let z : ◌≡◌ {A = ℕ} 0 1 = cc in omega arith
+    never p q = cc
 
     below : (l : ℕ) → l < 8 → table_a2 l ≡ sized n → ⊥
     below zero h q = let z : ◌≡◌ {A = Size} no_body (sized n) = sym a2_none ∙ q in let w : ◌≡◌ {A = ℕ} 0 1 = cc in omega arith
@@ -111,30 +109,30 @@ pub length_bytes_lem : (m : ℕ) → m < 20 → length_bytes (m + 8) ≡ mode_by
 unfolding length_bytes
 length_bytes_lem m h = ap bytes_in (same_size m h)
 
-pub mode_length : (m : ℕ) → m < 20 → mode_of (m + 8) ≡ named-mode.Is (record { 0 = m })
+pub mode_length : (m : ℕ) → m < 20 → mode_of (m + 8) ≡ Some (record { 0 = m })
 unfolding mode_of
 mode_length m h =
     let e : m + 8 - 8 ≡ m = omega arith in
-    ap (λ (z : Size). named z (m + 8)) (same_size m h) ∙ ap (λ (k : ℕ). named-mode.Is (record { 0 = k })) e
+    ap (λ (z : Size). named z (m + 8)) (same_size m h) ∙ ap (λ (k : ℕ). Some (record { 0 = k })) e
 
-pub length_mode : (m : ℕ) → m < 20 → length_of m ≡ named-field.Is (record { 0 = m + 8 })
+pub length_mode : (m : ℕ) → m < 20 → length_of m ≡ Some (record { 0 = m + 8 })
 unfolding length_of
 length_mode m h = rw (lt-ltb m 20 h)
 
-pub no_length : (m : ℕ) → 19 < m → length_of m ≡ named-field.None
+pub no_length : (m : ℕ) → 19 < m → length_of m ≡ None
 unfolding length_of
 no_length m h = rw (le-ltb m 20 h)
 
 -- a field L of 8 to 27 and its mode
-pub a2_between : (l : ℕ) → 8 ≤ l → l ≤ 27 → (length_bytes l ≡ mode_bytes (l - 8)) × (mode_of l ≡ named-mode.Is (record { 0 = l - 8 }))
+pub a2_between : (l : ℕ) → 8 ≤ l → l ≤ 27 → (length_bytes l ≡ mode_bytes (l - 8)) × (mode_of l ≡ Some (record { 0 = l - 8 }))
 a2_between l p h =
     let e : l - 8 + 8 ≡ l = omega arith in
     (ap length_bytes (sym e) ∙ length_bytes_lem (l - 8) (omega arith), ap mode_of (sym e) ∙ mode_length (l - 8) (omega arith))
 
 -- a field's bytes are those of the mode that it names
-abbrev pub bytes_named : NamedMode → ℕ
-bytes_named named-mode.None = 0
-bytes_named (named-mode.Is m) = mode_bytes m.0
+abbrev pub bytes_named : Option Mode → ℕ
+bytes_named None = 0
+bytes_named (Some m) = mode_bytes m.0
 
 pub bytes_named_lem : (l : ℕ) → length_bytes l ≡ bytes_named (mode_of l)
 bytes_named_lem l =
@@ -143,28 +141,36 @@ bytes_named_lem l =
     by_bool (leb l 27) (λ u. let a = a2_between l (ltb-false l 8 t) (leb-true l 27 u) in a.0 ∙ sym (ap bytes_named a.1))
     (λ u. let a = a2_above l (leb-false l 27 u) in a.0 ∙ sym (ap bytes_named a.1)))
 
+pub mode_below : (l : ℕ) → l < 8 → mode_of l ≡ None
+mode_below l h = (a2_below l h).1
+
+pub mode_above : (l : ℕ) → 27 < l → mode_of l ≡ None
+mode_above l h = (a2_above l h).1
+
+pub mode_between : (l : ℕ) → 8 ≤ l → l ≤ 27 → mode_of l ≡ Some (record { 0 = l - 8 })
+mode_between l p h = (a2_between l p h).1
+
+pub bytes_none : (l : ℕ) → None ≡ mode_of l → length_bytes l ≡ 0
+bytes_none l e = bytes_named_lem l ∙ ap bytes_named (sym e)
+
+pub bytes_some : (l : ℕ) (m : Mode) → Some m ≡ mode_of l → length_bytes l ≡ mode_bytes m.0
+bytes_some l m e = bytes_named_lem l ∙ ap bytes_named (sym e)
+
+-- what closes the code's tests of a field L
+pub ruleset by_length = (bytes_none, bytes_some, mode_below, mode_above, mode_between)
+
 -- the mode that a field of 8 to 27 names is L − 8
-number : NamedMode → ℕ
-number named-mode.None = 0
-number (named-mode.Is m) = m.0
+pub mode_less_8 : (l : ℕ) → 8 ≤ l → l ≤ 27 → (m : Mode) → mode_of l ≡ Some m → m.0 ≡ l - 8
+mode_less_8 l p h m e = let w = mode_between l p h in cc
 
-pub mode_less_8 : (l : ℕ) → 8 ≤ l → l ≤ 27 → (m : Mode) → mode_of l ≡ named-mode.Is m → m.0 ≡ l - 8
-unfolding number
-mode_less_8 l p h m e = ap number (sym e ∙ (a2_between l p h).1)
-
-pub mode_given : (l : ℕ) → 8 ≤ l → l ≤ 27 → mode_of l ≡ named-mode.None → ⊥
-mode_given l p h e = let w = sym e ∙ (a2_between l p h).1 in let z : ◌≡◌ {A = ℕ} 0 1 = cc in omega arith
+pub mode_given : (l : ℕ) → 8 ≤ l → l ≤ 27 → mode_of l ≡ None → ⊥
+mode_given l p h e = let w = mode_between l p h in cc
 
 -- the field L that names a mode's size is at most 27
-pub field_most : (m : ℕ) (f : Length) → length_of m ≡ named-field.Is f → f.0 ≤ 27
+pub field_most : (m : ℕ) (f : Length) → length_of m ≡ Some f → f.0 ≤ 27
 field_most m f e =
-    by_bool (ltb m 20)
-    (λ t. let q : m + 8 ≡ f.0 = ap numbered (sym (length_mode m (ltb-true m 20 t)) ∙ e) in omega (arith, ltb-true m 20 t))
-    (λ t. absurd (let w = sym (no_length m (ltb-false m 20 t)) ∙ e in let z : ◌≡◌ {A = ℕ} 0 1 = cc in omega arith))
-  where
-    numbered : NamedField → ℕ
-    numbered named-field.None = 0
-    numbered (named-field.Is f) = f.0
+    by_bool (ltb m 20) (λ t. let w = length_mode m (ltb-true m 20 t) in let q : m + 8 ≡ f.0 = cc in omega (arith, ltb-true m 20 t))
+    (λ t. absurd (let w = no_length m (ltb-false m 20 t) in cc))
 
 -- ---- what the code computes
 
@@ -180,6 +186,9 @@ mode_ten m h = sym (length_bytes_lem m (omega arith)) ∙ ap bytes_in (a2_ten (m
 pub mode_twenty : (m : ℕ) → 14 < m → m ≤ 19 → mode_bytes m ≡ 20 * m - 60
 unfolding length_bytes
 mode_twenty m p h = sym (length_bytes_lem m (omega arith)) ∙ ap bytes_in (a2_twenty (m + 8) (omega arith) (omega arith)) ∙ omega arith
+
+-- what closes the code's tests of a mode
+pub ruleset by_mode = (mode_ten, mode_twenty, mode_past, length_mode, no_length)
 
 -- a body has 80 to 320 bytes
 bounded : T (every (λ (m n : ℕ). leb 80 n && leb n 320) 0 table22)

@@ -16,10 +16,10 @@ use Rattle.ground.specs.Replies.{done, wrong_channels}
 use Rattle.prefix.specs.Prefix.{prefix_of, byte_of, reading_of as prefix_reading, writing_of as prefix_writing, PrefixReading}
 use Rattle.prefix.specs.declared.Prefix.{Prefix}
 use Rattle.prefix.specs.declared.Prefix.TheVariants.{Data, NoData, NoByte, Marked, Reserved}
-use Rattle.prefix.specs.declared.Byte.{Byte}
-use Rattle.prefix.specs.declared.Byte.TheVariants.{Is, OutOfRange}
+use Rattle.std.specs.Prelude.{Result, Ok, Err}
+use Rattle.ground.specs.declared.replies.Reply.{Reply}
 use Rattle.norms.specs.Answers.{norm_reply, choice_of as flag_n}
-use Rattle.norms.specs.declared.Choice.{Choice}
+use Rattle.norms.specs.Answers.{Choice}
 use Rattle.legal.specs.Answers.{legalised}
 use Rattle.legal.specs.declared.Legal.{Legal}
 use Rattle.weights.specs.Weights.{weighed}
@@ -41,8 +41,7 @@ use Rattle.choice.specs.Choice.{choice_reply, choice_of as flag_c}
 use Rattle.writer.specs.Empty.{empty_reply, empty_after}
 use Rattle.writer.specs.Writes.{write_reply}
 use Rattle.writer.specs.declared.Writing.{Writing}
-use Rattle.listing.specs.Listing.{listed_in, out_after, room}
-use Rattle.listing.specs.declared.Listing.{Listing}
+use Rattle.listing.specs.Listing.{Listing, listed_in, out_after, room}
 use Rattle.recording.specs.Walk.{walk, booked, most_frames, check_over, check_of}
 use Rattle.recording.specs.declared.answer.Check.{Check}
 use Rattle.recording.specs.Blocks.{is_count, check_blocks}
@@ -119,9 +118,9 @@ prefix_zeros NoByte n = refl
 prefix_zeros Marked n = refl
 prefix_zeros Reserved n = refl
 
-byte_zeros : (b : Byte) → let a = prefix_writing b in Refused a.reply → a ≡ record { reply = a.reply; byte = 0 }
-byte_zeros (Is b) n = absurd (n refl)
-byte_zeros OutOfRange n = refl
+byte_zeros : (b : Result ℕ Reply) → let a = prefix_writing b in Refused a.reply → a ≡ record { reply = a.reply; byte = 0 }
+byte_zeros (Ok b) n = absurd (n refl)
+byte_zeros (Err r) n = refl
 
 -- an answer picked by a test: one arm is 0, the other a number alone
 module _ {A : Type 0} (reply : A → ℕ) (alone : ℕ → A) where

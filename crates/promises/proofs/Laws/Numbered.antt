@@ -17,16 +17,16 @@ use Rattle.bits.specs.Codings.{Coding, fixed, prefix, Answer, got, no, or_else, 
 use Rattle.words.specs.Tables.{coding}
 use Rattle.words.specs.Answers.{placed, word_at, number_of}
 use Rattle.runs.specs.Runs.{passed_up, run_reply}
+use Rattle.std.specs.Prelude.{Result, Ok, Err}
+use Rattle.bits.specs.declared.Refusal.{Refusal}
+use Rattle.ground.specs.declared.replies.Reply.{Reply}
 use Rattle.words.specs.declared.Word.{Word}
-use Rattle.words.specs.declared.Word.TheVariants.{At, No}
 use Rattle.prefix.specs.Prefix.{prefix_of, byte_of, reading_of as prefix_reading, writing_of as prefix_writing}
 use Rattle.prefix.specs.declared.Prefix.{Prefix}
 use Rattle.prefix.specs.declared.Prefix.TheVariants.{Data, NoData, NoByte, Marked, Reserved}
-use Rattle.prefix.specs.declared.Byte.{Byte}
-use Rattle.prefix.specs.declared.Byte.TheVariants.{Is, OutOfRange}
 use Rattle.norms.specs.Answers.{norm_causes, norm_reply, choice_of as flag_n}
 use Rattle.legal.specs.Answers.{legalised}
-use Rattle.norms.specs.declared.Choice.{Choice}
+use Rattle.norms.specs.Answers.{Choice}
 use Rattle.legal.specs.declared.Legal.{Legal}
 use Rattle.weights.specs.Weights.{weighed}
 use Rattle.weights.specs.declared.Weights.{Weights}
@@ -46,8 +46,7 @@ use Rattle.layout.proofs.Laws.Parts.{layout_reply}
 use Rattle.writer.specs.Writes.{room_causes, tail_causes, write_causes, write_reply}
 use Rattle.choice.specs.Choice.{choice_causes, choice_reply, choice_of as flag_c}
 use Rattle.writer.specs.declared.Writing.{Writing as Written}
-use Rattle.listing.specs.Listing.{listed_in}
-use Rattle.listing.specs.declared.Listing.{Listing}
+use Rattle.listing.specs.Listing.{Listing, listed_in}
 use Rattle.recording.specs.Walk.{check_of}
 use Rattle.recording.proofs.Laws.Checked.{check_replies}
 use Rattle.recording.proofs.Laws.Frames.{frame_unit}
@@ -187,10 +186,9 @@ prefix_number NoByte = tt
 prefix_number Marked = tt
 prefix_number Reserved = tt
 
-pub byte_number : (b : Byte) → OneOf (0 ∷ 8 ∷ []) (prefix_writing b).reply
-unfolding among
-byte_number (Is b) = tt
-byte_number OutOfRange = tt
+pub byte_number : (mode : ℕ) → OneOf (0 ∷ 8 ∷ []) (prefix_writing (byte_of mode)).reply
+unfolding among byte_of
+byte_number mode = picked (λ (b : Result ℕ Reply). OneOf (0 ∷ 8 ∷ []) (prefix_writing b).reply) (ltb mode 20) _ _ tt tt
 
 -- ---- a decoded word is a number with its next place (0), or a refusal: 6, 7
 
@@ -234,9 +232,9 @@ unfolding word_at
 word_number s at end kind = unword_number (coding kind) (view s at (end - at)) at (end - at)
 
 -- and a run of words passes the refusal up with its number
-pub word_passed : (w : Word) → run_reply (passed_up w) ≡ number_of w
-word_passed (At v next) = refl
-word_passed (No x) = refl
+pub word_passed : (w : Result Word Refusal) → run_reply (passed_up w) ≡ number_of w
+word_passed (Ok w) = refl
+word_passed (Err x) = refl
 
 -- ---- norms, weights, shares and points: 0, 8
 
@@ -279,7 +277,7 @@ unfolding among
 numbered =
     record {
       read_prefix = λ src. prefix_number (prefix_of src);
-      write_prefix = λ mode. byte_number (byte_of mode);
+      write_prefix = λ mode. byte_number mode;
       read = λ src codes tail. read_number src (length codes) (length tail);
       write =
           λ r codes tail out.

@@ -8,27 +8,15 @@ use native.Mathlib.Nat.{add-zero, add_assoc}
 use native.Mathlib.Numerals.{add-one}
 use native.Mathlib.Omega.{arith}
 use lib.Dec.{eqb}
-use lib.ListN.{length, drop, length-drop}
+use lib.ListN.{length, take, drop, length-drop}
 use lib.Seq.{drop-drop}
-use borrow.Author.Tests.{eq-eqb, ne_eqb}
 use Rattle.ground.proofs.Laws.Cases.{by_bool}
-use Rattle.ground.specs.Replies.{done, no_byte, cut}
+use Rattle.ground.specs.Replies.{no_byte, cut}
 use Rattle.recording.specs.Walk.{Step, stops, passes, frame_step}
 use Rattle.recording.proofs.Laws.Frames.{frame_unit}
-use Rattle.recording.specs.Blocks.{further, in_block, followed, block_step, made_passing, passing_of}
+use Rattle.recording.proofs.Laws.Reads.{lent}
+use Rattle.recording.specs.Blocks.{further, in_block, followed, block_step}
 use Rattle.recording.specs.Inner.{reply_behind}
-
-pub behind_first : (c x : ℕ) → c ≡ 0 → x ≡ reply_behind c x
-behind_first zero x e = refl
-behind_first (suc c) x e = absurd (omega arith)
-
-pub behind_missing : (c x : ℕ) → (c ≡ 0 → ⊥) → x ≡ no_byte → cut ≡ reply_behind c x
-behind_missing zero x e q = absurd (e refl)
-behind_missing (suc c) x e q = rw (eq-eqb x no_byte q) refl
-
-pub behind_other : (c x : ℕ) → (x ≡ no_byte → ⊥) → x ≡ reply_behind c x
-behind_other zero x q = refl
-behind_other (suc c) x q = rw (ne_eqb x no_byte q) refl
 
 abbrev pub begun : ℕ → ℕ → Step → Step
 begun zero at x = x
@@ -73,22 +61,27 @@ module _ {src : List ℕ} {n at c : ℕ} (B : Begun src n at c) where
       let q : n - c ≡ suc (n - (c + 1)) = omega arith in
       ap (λ (k : ℕ). block_step k (drop at src)) q ∙ ap (λ (x : Step). followed x (λ k. block_step (n - (c + 1)) (drop k (drop at src)))) e
 
-  pub begun_stop : c < n → (x : ℕ) → frame_step (drop at src) ≡ stops x → made_passing (reply_behind c x) 0 ≡ passing_of (block_step n src)
-  begun_stop h x e = sym (ap passing_of (B.same ∙ ap (begun c at) (block_more h (stops x) e) ∙ begun_stops c at x))
+  -- the frame there is read from the part that is lent
+  module _ (h : c < n) where
+    pub begun_stop : {r x : ℕ} → r ≡ reply_behind c x → stops x ≡ frame_step (take (length src - at) (drop at src)) → stops r ≡ block_step n src
+    begun_stop {r} {x} q e =
+        let f = sym (e ∙ ap frame_step (lent src at)) in
+        ap stops q ∙ sym (B.same ∙ ap (begun c at) (block_more h (stops x) f) ∙ begun_stops c at x)
 
-  pub begun_next : c < n → (k : ℕ) → frame_step (drop at src) ≡ passes k → Begun src n (at + k) (c + 1)
-  begun_next h k e =
-      record {
-        few = omega arith;
-        inside = omega (arith, B.inside, (frame_unit.told (drop at src) k e).1, length-drop at src);
-        first = λ z. absurd (omega arith);
-        same =
-            B.same ∙ ap (begun c at) (block_more h (passes k) e) ∙ begun_more c at k _ B.first
-            ∙ ap (λ (s : List ℕ). begun (c + 1) (at + k) (block_step (n - (c + 1)) s)) (drop-drop k at src);
-      }
+    pub begun_next : {k : ℕ} → passes k ≡ frame_step (take (length src - at) (drop at src)) → Begun src n (at + k) (c + 1)
+    begun_next {k} e =
+        let f = sym (e ∙ ap frame_step (lent src at)) in
+        record {
+          few = omega arith;
+          inside = omega (arith, B.inside, (frame_unit.told (drop at src) k f).1, length-drop at src);
+          first = λ z. absurd (omega arith);
+          same =
+              B.same ∙ ap (begun c at) (block_more h (passes k) f) ∙ begun_more c at k _ B.first
+              ∙ ap (λ (s : List ℕ). begun (c + 1) (at + k) (block_step (n - (c + 1)) s)) (drop-drop k at src);
+        }
 
-  pub begun_end : n ≤ c → made_passing done at ≡ passing_of (block_step n src)
+  pub begun_end : n ≤ c → passes at ≡ block_step n src
   unfolding block_step
   begun_end h =
       let q : n - c ≡ 0 = omega arith in
-      sym (ap passing_of (B.same ∙ ap (λ (k : ℕ). begun c at (block_step k (drop at src))) q ∙ begun_ends c at B.first))
+      sym (B.same ∙ ap (λ (k : ℕ). begun c at (block_step k (drop at src))) q ∙ begun_ends c at B.first)

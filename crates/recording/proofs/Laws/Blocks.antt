@@ -13,6 +13,10 @@ use lib.Seq.{drop_at, take-add}
 use borrow.Author.Tests.{eqb-false, ltb-true, ne_eqb, lt-ltb}
 use Rattle.ground.proofs.Laws.Cases.{by_bool}
 use Rattle.ground.specs.Replies.{no_byte, cut}
+use Rattle.ground.specs.Numbered.{reply_of}
+use Rattle.ground.specs.declared.replies.Reply.{Reply}
+use Rattle.std.specs.declared.result.Result.{Result}
+use Rattle.std.specs.declared.result.Result.TheVariants.{Ok, Err}
 use Rattle.frame.specs.Answers.{Outcome, refused, empty, sound}
 use Rattle.recording.specs.Walk.{Step, stops, passes, step_of, frame_step, stored_at, next_step, booked, most_frames, check_over, check_of}
 use Rattle.recording.proofs.Laws.Walk.{next_same, walk_same}
@@ -21,8 +25,8 @@ use Rattle.recording.proofs.Laws.Units.{LawfulUnit}
 use Rattle.recording.specs.Frames.{Stored, Frames}
 use Rattle.recording.proofs.Laws.Frames.{frame_unit}
 use Rattle.recording.proofs.Laws.Reads.{refused_low}
-use Rattle.recording.specs.Blocks.{further, in_block, followed, is_count, block_step, passing_of, check_blocks}
-use Rattle.recording.specs.declared.answer.Passing.{Passing}
+use Rattle.recording.specs.Told.{told, step_reply}
+use Rattle.recording.specs.Blocks.{further, in_block, followed, is_count, block_step, check_blocks}
 
 module _ (n : ℕ) (s : List ℕ) where
   -- the block by its first frame
@@ -132,8 +136,8 @@ one_block s = go (frame_step s) refl
     go (passes k) e = block_passed 0 s k e (passes 0) refl ∙ ap passes (add-zero k)
 
 -- with one channel a block is a frame: a step of the walk tells of frames, and the check is the file check
-pub one_told : (n : ℕ) (s : List ℕ) {p : Passing} → p ≡ passing_of (next_step (block_step 1) n s) → p ≡ passing_of (next_step frame_step n s)
-one_told n s e = e ∙ ap passing_of (next_same (block_step 1) frame_step one_block n s)
+pub one_told : (n : ℕ) (s : List ℕ) {o : Step} → o ≡ next_step (block_step 1) n s → o ≡ next_step frame_step n s
+one_told n s e = e ∙ next_same (block_step 1) frame_step one_block n s
 
 pub one_channel : (src : List ℕ) (booking : ℕ) → check_blocks 1 src booking ≡ check_of src booking
 unfolding check_over
@@ -155,3 +159,9 @@ counted n e =
 pub is_counted : (n : ℕ) → 1 ≤ n → n ≤ 8 → is_count n ≡ true
 unfolding is_count
 is_counted n a b = rw (ne_eqb n 0 (λ e. omega arith), lt-ltb n 9 (omega arith)) refl
+
+-- ---- the number of an outcome is that of its step
+
+pub told_reply : (r : Result ℕ Reply) → reply_of r ≡ step_reply (told r)
+told_reply (Ok n) = refl
+told_reply (Err x) = refl

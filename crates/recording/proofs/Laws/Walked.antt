@@ -1,7 +1,7 @@
 -- A recording walked so far: so many sound units of so many bytes stand in front of the walk that is left; what a step of it tells, and its end held
 -- against the booking.
 -- Assumes nothing.
-use mathlib.Core.Path.{◌≡◌, refl, sym, ap, ap₂, ◌∙◌}
+use mathlib.Core.Path.{◌≡◌, sym, ap, ap₂, ◌∙◌}
 use mathlib.Core.List.{List}
 use Prim.Native.Nat.{ℕ, suc, ◌+◌, ◌-◌, ◌≤◌, ◌<◌}
 use native.Mathlib.Omega.{arith}
@@ -13,29 +13,26 @@ use Rattle.recording.proofs.Laws.Walk.{ahead_none, ahead_ahead, ahead_stopped, b
 use Rattle.recording.proofs.Laws.Walk.{next_end, next_full, next_unit, next_passes, walk_stop, walk_pass}
 use Rattle.recording.proofs.Laws.Reads.{lent}
 use Rattle.recording.proofs.Laws.Units.{LawfulUnit}
-use Rattle.recording.specs.Blocks.{made_passing, passing_of}
 use Rattle.recording.specs.declared.answer.Check.{Check}
-use Rattle.recording.specs.declared.answer.Passing.{Passing}
 
 -- ---- what stands at a place, by its three cases
 
-module _ (unit : List ℕ → Step) (src : List ℕ) (at count : ℕ) {p : Passing} where
-  pub step_end : length src ≤ at → p ≡ made_passing done 0 → p ≡ passing_of (next_step unit (most_frames - count) (drop at src))
-  step_end h e = e ∙ ap passing_of (sym (next_end unit (most_frames - count) (drop at src) (omega (arith, length-drop at src))))
+module _ (unit : List ℕ → Step) (src : List ℕ) (at count : ℕ) where
+  pub step_end : length src ≤ at → stops done ≡ next_step unit (most_frames - count) (drop at src)
+  step_end h = sym (next_end unit (most_frames - count) (drop at src) (omega (arith, length-drop at src)))
 
   module _ (h : at < length src) where
-    pub step_full : most_frames ≤ count → p ≡ made_passing too_many 0 → p ≡ passing_of (next_step unit (most_frames - count) (drop at src))
-    step_full l e =
+    pub step_full : most_frames ≤ count → stops too_many ≡ next_step unit (most_frames - count) (drop at src)
+    step_full l =
         let z : 0 ≡ most_frames - count = omega arith in
-        e ∙ ap passing_of (sym (next_full unit (drop at src) (omega (arith, length-drop at src)))) ∙ ap (λ (n : ℕ). passing_of (next_step unit n (drop at src))) z
+        sym (next_full unit (drop at src) (omega (arith, length-drop at src))) ∙ ap (λ (n : ℕ). next_step unit n (drop at src)) z
 
-    pub step_unit : count < most_frames → p ≡ passing_of (unit (take (length src - at) (drop at src)))
-        → p ≡ passing_of (next_step unit (most_frames - count) (drop at src))
+    pub step_unit : {o : Step} → count < most_frames → o ≡ unit (take (length src - at) (drop at src))
+        → o ≡ next_step unit (most_frames - count) (drop at src)
     step_unit l e =
         let n = most_frames - (count + 1) in
         let z : suc n ≡ most_frames - count = omega arith in
-        e ∙ ap (λ (s : List ℕ). passing_of (unit s)) (lent src at) ∙ ap passing_of (sym (next_unit unit n (drop at src) (omega (arith, length-drop at src))))
-        ∙ ap (λ (k : ℕ). passing_of (next_step unit k (drop at src))) z
+        e ∙ ap unit (lent src at) ∙ sym (next_unit unit n (drop at src) (omega (arith, length-drop at src))) ∙ ap (λ (k : ℕ). next_step unit k (drop at src)) z
 
 -- ---- the units so far
 
@@ -47,66 +44,36 @@ pub record Walked (unit : List ℕ → Step) (src : List ℕ) (at count : ℕ) :
 pub walked_none : (unit : List ℕ → Step) (src : List ℕ) → Walked unit src 0 0
 walked_none unit src = record { few = omega arith; inside = omega arith; same = sym (ahead_none (walk_over unit most_frames src)) }
 
--- a step of lawful units answers p
-pub record Stepped (unit : List ℕ → Step) (src : List ℕ) (at count : ℕ) (p : Passing) : Type 0 where
-  pub walked : Walked unit src at count
-  pub told : p ≡ passing_of (next_step unit (most_frames - count) (drop at src))
-
-pub stepped_to : {unit : List ℕ → Step} {src : List ℕ} {at count : ℕ} {p : Passing} → Walked unit src at count
-    → p ≡ passing_of (next_step unit (most_frames - count) (drop at src)) → Stepped unit src at count p
-stepped_to walked told = record { walked = walked; told = told }
-
-module _ {unit : List ℕ → Step} {Whole : List ℕ → Type 0} (L : LawfulUnit unit Whole) {src : List ℕ} {at count : ℕ} {p : Passing}
-    (S : Stepped unit src at count p) where
-  -- no unit is of no bytes, so these tell a stop from a sound unit
-  passed : (k : ℕ) → next_step unit (most_frames - count) (drop at src) ≡ passes k → (0 < k) × (at + k ≤ length src)
-  passed k q =
-      let u = L.told (drop at src) k (next_passes unit (most_frames - count) (drop at src) k q).1 in (
-        omega (arith, L.some (take k (drop at src)) u.0, length-take-le k (drop at src) u.1),
-        omega (arith, S.walked.inside, u.1, length-drop at src),
-      )
-
-  ends : (o : Step) → next_step unit (most_frames - count) (drop at src) ≡ o → p ≡ passing_of o → p.bytes ≡ 0 → o ≡ stops p.reply
-  ends (stops x) q e z = ap stops (sym (ap (λ (y : Passing). y.reply) e))
-  ends (passes k) q e z = absurd (omega (arith, (passed k q).0, ap (λ (y : Passing). y.bytes) e))
-
-  goes : (o : Step) → p ≡ passing_of o → (p.bytes ≡ 0 → ⊥) → o ≡ passes p.bytes
-  goes (stops x) e z = absurd (z (ap (λ (y : Passing). y.bytes) e))
-  goes (passes k) e z = ap passes (sym (ap (λ (y : Passing). y.bytes) e))
-
-  pub step_stops : p.bytes ≡ 0 → next_step unit (most_frames - count) (drop at src) ≡ stops p.reply
-  step_stops z = ends _ refl S.told z
-
-  pub step_passes : (p.bytes ≡ 0 → ⊥) → next_step unit (most_frames - count) (drop at src) ≡ passes p.bytes
-  step_passes z = goes _ S.told z
-
-  pub step_inside : at + p.bytes ≤ length src
-  step_inside = go (next_step unit (most_frames - count) (drop at src)) refl S.told
-    where
-      go : (o : Step) → next_step unit (most_frames - count) (drop at src) ≡ o → p ≡ passing_of o → at + p.bytes ≤ length src
-      go (stops x) q e = omega (arith, S.walked.inside, ap (λ (y : Passing). y.bytes) e)
-      go (passes k) q e = omega (arith, (passed k q).1, ap (λ (y : Passing). y.bytes) e)
-
+module _ {unit : List ℕ → Step} {src : List ℕ} {at count : ℕ} (W : Walked unit src at count) where
   -- the end of the walk
-  pub walked_end : p.bytes ≡ 0 → made_check p.reply count at ≡ walk_over unit most_frames src
-  walked_end z =
-      sym (S.walked.same ∙ ap (ahead count at) (walk_stop unit (most_frames - count) (drop at src) p.reply (step_stops z))
-      ∙ ahead_stopped count at p.reply)
+  pub walked_end : (x : ℕ) → stops x ≡ next_step unit (most_frames - count) (drop at src) → made_check x count at ≡ walk_over unit most_frames src
+  walked_end x e = sym (W.same ∙ ap (ahead count at) (walk_stop unit (most_frames - count) (drop at src) x (sym e)) ∙ ahead_stopped count at x)
 
-  -- one unit more
-  pub walked_more : (p.bytes ≡ 0 → ⊥) → Walked unit src (at + p.bytes) (count + 1)
-  walked_more z =
-      let q = step_passes z in
-      let u = next_passes unit (most_frames - count) (drop at src) p.bytes q in
-      let n : most_frames - count - 1 ≡ most_frames - (count + 1) = omega arith in
-      record {
-        few = omega (arith, u.0);
-        inside = step_inside;
-        same =
-            S.walked.same ∙ ap (ahead count at) (walk_pass unit (most_frames - count) (drop at src) p.bytes q)
-            ∙ ahead_ahead count at 1 p.bytes _
-            ∙ ap₂ (λ (k : ℕ) (s : List ℕ). ahead (count + 1) (at + p.bytes) (walk_over unit k s)) n (drop-drop p.bytes at src);
-      }
+  module _ {Whole : List ℕ → Type 0} (L : LawfulUnit unit Whole) {k : ℕ} (e : passes k ≡ next_step unit (most_frames - count) (drop at src)) where
+    -- no unit is of no bytes, and each lies in the source
+    pub passed_some : 0 < k
+    passed_some =
+        let u = L.told (drop at src) k (next_passes unit (most_frames - count) (drop at src) k (sym e)).1 in
+        omega (arith, L.some (take k (drop at src)) u.0, length-take-le k (drop at src) u.1)
+
+    pub passed_inside : at + k ≤ length src
+    passed_inside =
+        let u = L.told (drop at src) k (next_passes unit (most_frames - count) (drop at src) k (sym e)).1 in
+        omega (arith, W.inside, u.1, length-drop at src)
+
+    -- one unit more
+    pub walked_more : Walked unit src (at + k) (count + 1)
+    walked_more =
+        let u = next_passes unit (most_frames - count) (drop at src) k (sym e) in
+        let n : most_frames - count - 1 ≡ most_frames - (count + 1) = omega arith in
+        record {
+          few = omega (arith, u.0);
+          inside = passed_inside;
+          same =
+              W.same ∙ ap (ahead count at) (walk_pass unit (most_frames - count) (drop at src) k (sym e))
+              ∙ ahead_ahead count at 1 k _
+              ∙ ap₂ (λ (i : ℕ) (s : List ℕ). ahead (count + 1) (at + k) (walk_over unit i s)) n (drop-drop k at src);
+        }
 
 -- ---- held against the booking
 

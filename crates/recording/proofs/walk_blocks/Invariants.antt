@@ -5,8 +5,8 @@ use Rattle.recording.specs.Blocks.{block_step}
 use Rattle.recording.proofs.Laws.Walked.{Walked}
 use Rattle.recording.proofs.walk_blocks.Given as goal
 
-abbrev pub invariant-loop-one : goal.invariant-loop-one
-invariant-loop-one l = Walked (block_step l.channels) l.src l.at l.count
+abbrev pub invariant-loop-bytes : goal.invariant-loop-bytes
+invariant-loop-bytes l = Walked (block_step l.channels) l.src l.at l.count
 
-abbrev pub decreases-loop-one : goal.decreases-loop-one
-decreases-loop-one l = length l.src - l.at
+abbrev pub decreases-loop-bytes : goal.decreases-loop-bytes
+decreases-loop-bytes l = length l.src - l.at

@@ -1,27 +1,15 @@
 -- The rounds of the contest, added up band by band from the rates.
 -- Assumes nothing.
 use mathlib.Core.Path.{◌≡◌, sym, ◌∙◌}
-use mathlib.Core.Bool.{Bool, true, false, cond, ◌&&◌}
+use mathlib.Core.Bool.{Bool, cond, ◌&&◌}
 use mathlib.Core.List.{List}
-use Prim.Native.Nat.{ℕ, ◌+◌, ◌≤◌, ◌<◌}
-use native.Mathlib.Omega.{arith}
-use borrow.Author.Tests.{lt-ltb, le-ltb}
+use Prim.Native.Nat.{ℕ, ◌+◌, ◌≤◌}
 use lib.Dec.{ltb}
 use Rattle.ground.specs.Sums.{nth, sum_to}
 use Rattle.ground.proofs.Laws.FillingLoops.{Reaching, reaching_done}
 use Rattle.ground.proofs.Laws.Sums.{sum_nil, sum_next, sum_both}
 use Rattle.contest.specs.Bands.{competing}
 use Rattle.contest.specs.Rounds.{rounds_by_rates}
-
--- ---- one band, by its tests
-pub put_out : (rate : ℕ) {competes : Bool} → competes ≡ true → rate < 9 → rate + 1 ≡ rate + cond (competes && ltb rate 9) 1 0
-put_out rate t h = rw (t, lt-ltb rate 9 h)
-
-pub at_nine : (rate : ℕ) {competes : Bool} → competes ≡ true → 9 ≤ rate → rate ≡ rate + cond (competes && ltb rate 9) 1 0
-at_nine rate t h = rw (t, le-ltb rate 9 h) (omega arith)
-
-pub idle : (rate : ℕ) {competes : Bool} → competes ≡ false → rate ≡ rate + cond (competes && ltb rate 9) 1 0
-idle rate t = rw t (omega arith)
 
 -- ---- the loop over the bands
 pub own_rounds : Bool → List ℕ → ℕ → ℕ

@@ -4,12 +4,12 @@ use Rattle.ground.proofs.Laws.FillingLoops.{reaching}
 use Rattle.rounds.proofs.Laws.RoundsByRates.{own_none, own_next, own_all}
 use Rattle.rounds.proofs.by_rates.Goals as goal
 
-pub loop-i-init : goal.loop-i-init
-loop-i-init c =
+pub loop-p-init : goal.loop-p-init
+loop-p-init c =
     search (reaching, own_none, arith)
 
-pub loop-i-preserved : goal.loop-i-preserved
-loop-i-preserved c =
+pub loop-p-preserved : goal.loop-p-preserved
+loop-p-preserved c =
     search (reaching, own_next, arith)
 
 pub returns : goal.returns

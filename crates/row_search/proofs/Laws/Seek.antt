@@ -18,48 +18,43 @@ use Rattle.ground.proofs.Laws.ListsByRule.{filled, get_d_table}
 use Rattle.ground.specs.Replies.{done}
 use Rattle.points.specs.Answers.{agree}
 use Rattle.points.proofs.Laws.Points.{all_yes, all_at, eq_z_eq, eq_z_refl}
-use Rattle.codebook.specs.declared.Row.{Row}
-use Rattle.codebook.specs.Codebook.{row, book, eight, place_of, row_index, no_row}
-use Rattle.codebook.specs.Packed.{code, sign_class, Found}
+use Rattle.std.specs.Bool.{then_some}
+use Rattle.std.specs.declared.option.Option.{Option}
+use Rattle.std.specs.declared.option.Option.TheVariants.{Some, None}
+use Rattle.codebook.specs.Codebook.{row, book, eight, place_of, row_index, no_row, answer_row}
+use Rattle.codebook.specs.Packed.{code, sign_class, Passed, First, Found}
 use Rattle.codebook.proofs.Laws.Rows.{row_long, code_apart, in_class, in_half}
 use Rattle.codebook.proofs.Laws.OneToOne.{place_names, place_of_lem}
 
 -- ---- a loop that passes the rows from `from` on: none before i has the code x
-pub record Passing (x from to i : ℕ) : Type 0 where
-  pub low : from ≤ i
-  pub high : i ≤ to
-  pub passed : (j : ℕ) → from ≤ j → j < i → code (row j) ≡ x → ⊥
 
-pub passing_none : {x from to : ℕ} → from ≤ to → Passing x from to from
-passing_none l = record { low = omega arith; high = l; passed = λ j a b e. absurd (omega arith) }
+pub passed_none : {x from : ℕ} → Passed x from from
+passed_none = record { each = λ j a b e. absurd (omega arith) }
 
-module _ {x from to i : ℕ} (p : Passing x from to i) where
-  pub passing_end : to ≤ i → Found x from to i
-  passing_end l = record { low = p.low; high = p.high; hit = λ h. absurd (omega arith); passed = p.passed }
+module _ {x from i : ℕ} (p : Passed x from i) where
+  pub passed_all : {to : ℕ} → to ≤ i → Passed x from to
+  passed_all l = record { each = λ j a b. p.each j a (omega arith) }
 
   module _ {y : ℕ} (e : y ≡ code (row i)) where
-    pub passing_hit : y ≡ x → Found x from to i
-    passing_hit q = record { low = p.low; high = p.high; hit = λ h. sym e ∙ q; passed = p.passed }
+    pub passed_hit : {to : ℕ} → from ≤ i → i < to → y ≡ x → First x from to i
+    passed_hit l h q = record { low = l; high = h; hit = sym e ∙ q; passed = p }
 
-    pub passing_more : i < to → (y ≡ x → ⊥) → Passing x from to (i + 1)
-    passing_more l n =
+    pub passed_more : (y ≡ x → ⊥) → Passed x from (i + 1)
+    passed_more n =
         record {
-          low = omega (arith, p.low);
-          high = omega arith;
-          passed = λ j a b q. elim (ℕ_discrete j i) [
+          each = λ j a b q. elim (ℕ_discrete j i) [
             | yes k ↦ n (e ∙ ap (λ (n : ℕ). code (row n)) (sym k) ∙ q)
-            | no k ↦ p.passed j a (omega (arith, k)) q
+            | no k ↦ p.each j a (omega (arith, k)) q
           ];
         }
 
-module _ (x n from to : ℕ) (f : Found x from to n) (small : to ≤ 256) (there : (j : ℕ) → j < 256 → code (row j) ≡ x → (from ≤ j) × (j < to)) where
-  pub sought : (j : ℕ) → j < 256 → code (row j) ≡ x → j ≡ n
-  sought j l e =
+module _ (x from to : ℕ) (small : to ≤ 256) (there : (j : ℕ) → j < 256 → code (row j) ≡ x → (from ≤ j) × (j < to)) where
+  pub sought : (found : Option ℕ) → Found x from to found → (j : ℕ) → j < 256 → code (row j) ≡ x → found ≡ Some j
+  sought (Some n) f j l e =
       let t = there j l e in
-      elim (dec_lt j n) [
-        | yes p ↦ absurd (f.passed j t.0 p e)
-        | no p ↦ let h : n < to = omega (arith, p) in code_apart j n l (omega arith) (e ∙ sym (f.hit h))
-      ]
+      let h = f.high in
+      elim (dec_lt j n) [ yes p ↦ absurd (f.passed.each j t.0 p e) | no p ↦ ap Some (code_apart n j (omega arith) l (f.hit ∙ sym e)) ]
+  sought None f j l e = let t = there j l e in absurd (f.each j t.0 t.1 e)
 
 -- where the row of a code lies, if it has one
 pub by_ones : (x j : ℕ) → x / 256 + x % 256 ≡ 255 → j < 256 → code (row j) ≡ x → ((sign_class (ones (x % 256))).from ≤ j) × (j < (sign_class (ones (x % 256))).to)
@@ -69,14 +64,15 @@ pub by_half : (x j : ℕ) → (x / 256 + x % 256 ≡ 255 → ⊥) → j < 256 �
 by_half x j e l q = (omega arith, in_half j l (rw q e))
 
 -- the one row that a search finds, by its code's class or half
-pub sought_class : {x n from to : ℕ} → x / 256 + x % 256 ≡ 255 → Found x from to n
-    → (from ≡ (sign_class (ones (x % 256))).from) × (to ≡ (sign_class (ones (x % 256))).to) × (from ≤ to) × (to ≤ 256)
-    → (n ≤ 256) × ((j : ℕ) → j < 256 → code (row j) ≡ x → j ≡ n)
-sought_class {x} {n} {from} {to} e f s =
-    (omega (arith, f.high, s.3), sought x n from to f s.3 (λ j l q. let b = by_ones x j e l q in (omega (arith, s.0, b.0), omega (arith, s.1, b.1))))
+pub sought_class : {x first last : ℕ} {found : Option ℕ} → x / 256 + x % 256 ≡ 255 → last < 256 → Found x first (last + 1) found
+    → (first ≡ (sign_class (ones (x % 256))).from) × (last + 1 ≡ (sign_class (ones (x % 256))).to) × (first ≤ last)
+    → (j : ℕ) → j < 256 → code (row j) ≡ x → found ≡ Some j
+sought_class {x} {first} {last} {found} e h f s =
+    sought x first (last + 1) (omega arith) (λ j l q. let b = by_ones x j e l q in (omega (arith, s.0, b.0), omega (arith, s.1, b.1))) found f
 
-pub sought_half : {x n : ℕ} → (x / 256 + x % 256 ≡ 255 → ⊥) → Found x 0 128 n → (n ≤ 256) × ((j : ℕ) → j < 256 → code (row j) ≡ x → j ≡ n)
-sought_half {x} {n} e f = (omega (arith, f.high), sought x n 0 128 f (omega arith) (λ j. by_half x j e))
+pub sought_half : {x : ℕ} {found : Option ℕ} → (x / 256 + x % 256 ≡ 255 → ⊥) → Found x 0 128 found
+    → (j : ℕ) → j < 256 → code (row j) ≡ x → found ≡ Some j
+sought_half {x} {found} e f = sought x 0 128 (omega arith) (λ j. by_half x j e) found f
 
 -- ---- from the row that was found to the answer
 
@@ -115,20 +111,17 @@ miss rate n v e only a =
 -- ---- each way out of the call is a case of the definition: if the row that it finds is the point, the index is that row's number; if it is
 -- not, no row is the point, since only that row can have the point's code
 
-pub row_foreign : (rate : ℕ) (v : List ℤ) {p : Row} → (rate ≡ 1 → ⊥) → p ≡ no_row → p ≡ row_index rate v
+pub row_foreign : (rate : ℕ) (v : List ℤ) → (rate ≡ 1 → ⊥) → no_row ≡ row_index rate v
 unfolding row_index
-row_foreign rate v e q = simp (ne_eqb _ _ e) q
+row_foreign rate v e = simp (ne_eqb _ _ e)
 
-pub row_made : (rate : ℕ) (v : List ℤ) {n : ℕ} {w : List ℤ} {b : Bool} → rate ≡ 1 → n < 256 → w ≡ row n → b ≡ agree w v 8 → b ≡ true
-    → record { reply = done; index = n } ≡ row_index rate v
-row_made rate v {n} e l g d t = hit rate n v e l (sym (d ∙ ap (λ (w : List ℤ). agree w v 8) g) ∙ t)
+module _ (rate : ℕ) (v : List ℤ) {x : ℕ} (e : rate ≡ 1) (c : x ≡ code v) where
+  pub row_missed : {found : Option ℕ} → ((j : ℕ) → j < 256 → code (row j) ≡ x → None ≡ Some j) → found ≡ None → answer_row found ≡ row_index rate v
+  row_missed s f = rw f (miss rate 256 v e (λ j l g. absurd (let q : None ≡ Some j = s j l (g ∙ sym c) in cc)) (λ l. absurd (omega arith)))
 
-module _ (rate : ℕ) (v : List ℤ) {x n : ℕ} {p : Row} (e : rate ≡ 1) (c : x ≡ code v) (s : (j : ℕ) → j < 256 → code (row j) ≡ x → j ≡ n) (q : p ≡ no_row) where
-  only : (j : ℕ) → j < 256 → code (row j) ≡ code v → j ≡ n
-  only j l g = s j l (g ∙ sym c)
-
-  pub row_past : 256 ≤ n → p ≡ row_index rate v
-  row_past l = q ∙ miss rate n v e only (λ h. absurd (omega arith))
-
-  pub row_other : {w : List ℤ} {b : Bool} → w ≡ row n → b ≡ agree w v 8 → b ≡ false → p ≡ row_index rate v
-  row_other g d t = q ∙ miss rate n v e only (λ l. sym (d ∙ ap (λ (w : List ℤ). agree w v 8) g) ∙ t)
+  pub row_told : {n : ℕ} {w : List ℤ} {found : Option ℕ} (b : Bool) → n < 256 → ((j : ℕ) → j < 256 → code (row j) ≡ x → Some n ≡ Some j) → w ≡ row n
+      → b ≡ agree w v 8 → found ≡ then_some b n → answer_row found ≡ row_index rate v
+  row_told {n} true l s g d f = rw f (hit rate n v e l (sym (d ∙ ap (λ (w : List ℤ). agree w v 8) g)))
+  row_told {n} false l s g d f =
+      rw f
+      (miss rate n v e (λ j b q. let t : Some n ≡ Some j = s j b (q ∙ sym c) in cc) (λ l. sym (d ∙ ap (λ (w : List ℤ). agree w v 8) g)))

@@ -1,49 +1,20 @@
--- The weight of a raised number, and the loop that adds the weights, each at its place. Assumes nothing.
-use mathlib.Core.Path.{◌≡◌, refl, ap, subst, ◌∙◌}
+-- The loop that adds the weights, each at its place. Assumes nothing.
+use mathlib.Core.Path.{◌≡◌, refl, ap, ◌∙◌}
 use mathlib.Core.List.{List}
-use Prim.Native.Nat.{ℕ, zero, suc, ◌+◌, ◌*◌, ◌%◌, ◌^◌, ◌<◌, ◌≤◌}
+use Prim.Native.Nat.{ℕ, suc, ◌+◌, ◌*◌, ◌%◌, ◌^◌, ◌<◌, ◌≤◌}
 use native.Mathlib.Nat.{mod-eq_of_lt, mul-le-mul_right}
 use native.Mathlib.Numerals.{add-one}
 use native.Mathlib.Omega.{arith}
-use lib.IntN.{ℤ, pos, negsuc}
+use lib.IntN.{ℤ, pos}
 use lib.ListN.{get_or}
 use lib.Pow.{pow_mono}
 use lib.Signed.{mag}
 use mir.Facts.{to_z-of_z}
 use mir.Syntax.{w16}
-use mir.Val.{SFits, to_z, of_z}
-use Rattle.ground.specs.Differences.{Is}
+use mir.Val.{to_z, of_z}
 use Rattle.ground.specs.Sums.{sum_to}
 use Rattle.ground.proofs.Laws.Sums.{sum_more}
 use Rattle.codebook.specs.Packed.{weight, code}
-
-above : (z : ℤ) {u h : ℕ} → Is z u h → h < u → 256 ≡ weight z
-above (pos zero) p l = absurd (omega arith)
-above (pos (suc n)) p l = refl
-above (negsuc n) p l = absurd (omega arith)
-
-below : (z : ℤ) {u h : ℕ} → Is z u h → u < h → 1 ≡ weight z
-below (pos n) p l = absurd (omega arith)
-below (negsuc n) p l = refl
-
-level : (z : ℤ) {u h : ℕ} → Is z u h → u ≤ h → h ≤ u → 0 ≡ weight z
-level (pos zero) p l m = refl
-level (pos (suc n)) p l m = absurd (omega arith)
-level (negsuc n) p l m = absurd (omega arith)
-
--- a number read from its bits and raised is above 32768, below it or equal to it
-module _ {z : ℤ} {u : ℕ} (f : SFits w16 z) (e : Is (to_z w16 (of_z w16 z)) u 32768) where
-  raised : Is z u 32768
-  raised = subst (λ (y : ℤ). Is y u 32768) (to_z-of_z f) e
-
-  pub weight_above : 32768 < u → 256 ≡ weight z
-  weight_above = above z raised
-
-  pub weight_below : u < 32768 → 1 ≡ weight z
-  weight_below = below z raised
-
-  pub weight_level : u ≤ 32768 → 32768 ≤ u → 0 ≡ weight z
-  weight_level = level z raised
 
 -- a weight shifted to its place loses no bit, and the next place's weights are larger
 pub shifted : {w i : ℕ} → w ≤ 256 → i < 8 → (w * 2 ^ i % 4294967296 ≡ w * 2 ^ i) × (w * 2 ^ i ≤ 256 * 2 ^ i) × (2 ^ i ≤ 256)

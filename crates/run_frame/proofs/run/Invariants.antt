@@ -1,11 +1,6 @@
--- `run_frame::run` is safe and ends: the place never passes the end.
--- Assumes nothing.
-use lib.ListN.{length}
-use Prim.Native.Nat.{◌-◌, ◌≤◌}
+-- `run_frame::run` ends: each line leaves less. Assumes nothing.
+use Rattle.std.proofs.Common.{length}
 use Rattle.run_frame.proofs.run.Given as goal
 
-abbrev pub invariant-loop-at : goal.invariant-loop-at
-invariant-loop-at l = l.at ≤ length l.s
-
-abbrev pub decreases-loop-at : goal.decreases-loop-at
-decreases-loop-at l = length l.s - l.at
+abbrev pub decreases-loop-rest : goal.decreases-loop-rest
+decreases-loop-rest l = length l.rest

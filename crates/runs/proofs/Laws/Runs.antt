@@ -18,20 +18,20 @@ use Rattle.bits.specs.declared.Refusal.{Refusal}
 use Rattle.words.specs.Tables.{coding}
 use Rattle.words.specs.Answers.{placed, word_at}
 use Rattle.words.specs.declared.Word.{Word}
-use Rattle.words.specs.declared.Word.TheVariants.{At, No}
-use Rattle.runs.specs.declared.Run.{Run}
-use Rattle.runs.specs.declared.Run.TheVariants as run
-use Rattle.runs.specs.Runs.{run_at, ran, more, some_of, read_some, over, passed_up}
+use Rattle.std.specs.declared.result.Result.{Result}
+use Rattle.std.specs.declared.result.Result.TheVariants.{Ok, Err}
+use Rattle.runs.specs.Runs.{run_at, ran, more, some_of, read_some, over}
 
 -- ---- a word at a place
 
-placed_at : (at left : ℕ) (g : Answer ℕ) (v next : ℕ) → At v next ≡ placed at left g → (r : List Bool) × (g ≡ got v r) × (next ≡ at + (left - length r))
-placed_at at left (got x r) v next e =
-    let ev : v ≡ x = cc in
-    (r, ap (λ (k : ℕ). got k r) (sym ev), (cc))
-placed_at at left (no x) v next e = absurd (let z : ◌≡◌ {A = ℕ} 0 1 = cc in omega arith)
+placed_at : (at left : ℕ) (g : Answer ℕ) (w : Word) → Ok w ≡ placed at left g
+    → (r : List Bool) × (g ≡ got w.number r) × (w.next ≡ at + (left - length r))
+placed_at at left (got x r) w e =
+    let ew : w ≡ record { number = x; next = at + (left - length r) } = cc in
+    (r, ap (λ (u : Word). got u.number r) (sym ew), ap (λ (u : Word). u.next) ew)
+placed_at at left (no x) w e = absurd (let z : ◌≡◌ {A = ℕ} 0 1 = cc in omega arith)
 
-placed_no : (at left : ℕ) (g : Answer ℕ) (x : Refusal) → No x ≡ placed at left g → g ≡ no x
+placed_no : (at left : ℕ) (g : Answer ℕ) (x : Refusal) → Err x ≡ placed at left g → g ≡ no x
 placed_no at left (got v r) x e = absurd (let z : ◌≡◌ {A = ℕ} 0 1 = cc in omega arith)
 placed_no at left (no y) x e = let q : y ≡ x = cc in ap no q
 
@@ -79,7 +79,7 @@ pub record Reading (s : List ℕ) (at end : ℕ) (kinds out₀ out : List ℕ) (
   pub some : read_some s at end kinds ≡ take i out ++ read_some s p end (drop i kinds)
 
 -- what the loop answers: where the run ended or its refusal, and the numbers read so far in out
-pub record Answered (s : List ℕ) (at end : ℕ) (kinds out₀ out : List ℕ) (u : Run) : Type 0 where
+pub record Answered (s : List ℕ) (at end : ℕ) (kinds out₀ out : List ℕ) (u : Result ℕ Refusal) : Type 0 where
   pub said : u ≡ ran at (end - at) (run_at s at end kinds)
   pub some : out ≡ over (read_some s at end kinds) out₀
 
@@ -111,12 +111,14 @@ module _ {s : List ℕ} {at end : ℕ} {kinds out₀ : List ℕ} where
       unfolding read_some some_of
       some_head = ap (λ (l : List ℕ). some_of (map coding l) (view s p (end - p))) (drop-cons kinds i 0 h)
 
-      pub turn : {w : Word} {v next : ℕ} → w ≡ At v next → w ≡ word_at s p end (get_or kinds i 0) → Reading s at end kinds out₀ (set out i v) next (i + 1)
+      pub turn : {w : Word} → Ok w ≡ word_at s p end (get_or kinds i 0) → Reading s at end kinds out₀ (set out i w.number) w.next (i + 1)
       unfolding word_at run_at read_some
-      turn {v = v} {next = next} o e =
+      turn {w} e =
+          let v = w.number in
+          let next = w.next in
           let k = coding (get_or kinds i 0) in
           let g = unword k (view s p (end - p)) in
-          let (r, ge, q) = placed_at p (end - p) g v next (sym o ∙ e) in
+          let (r, ge, q) = placed_at p (end - p) g w e in
           let N = next_left k s p end v next r ge q in
           let cs = map coding (drop (suc i) kinds) in
           let front : take i out ++ (v ∷ []) ≡ take (i + 1) (set out i v) =
@@ -141,19 +143,18 @@ module _ {s : List ℕ} {at end : ℕ} {kinds out₀ : List ℕ} where
                 ∙ ap₂ (λ (x y : List ℕ). x ++ y) front (ap₂ (λ (k : ℕ) (b : List Bool). some_of (map coding (drop k kinds)) b) (sym (add-one i)) N.0);
           }
 
-      pub refuses : {w : Word} {x : Refusal} {u : Run} → w ≡ No x → w ≡ word_at s p end (get_or kinds i 0) → u ≡ passed_up w
-          → Answered s at end kinds out₀ out u
+      pub refuses : {x : Refusal} → Err x ≡ word_at s p end (get_or kinds i 0) → Answered s at end kinds out₀ out (Err x)
       unfolding word_at
-      refuses {x = x} o e q =
-          let ge = placed_no p (end - p) (unword (coding (get_or kinds i 0)) (view s p (end - p))) x (sym o ∙ e) in
+      refuses {x} e =
+          let ge = placed_no p (end - p) (unword (coding (get_or kinds i 0)) (view s p (end - p))) x e in
           let cs = map coding (drop (suc i) kinds) in
           let R : run_at s at end kinds ≡ no x =
           I.said ∙ ap (onto (take i out)) (run_head ∙ ap (λ (g : Answer ℕ). and_then g (λ v r. and_then (read_all cs r) (λ vs q. got (v ∷ vs) q))) ge) in
           let S : read_some s at end kinds ≡ take i out =
           I.some ∙ ap (λ (l : List ℕ). take i out ++ l) (some_head ∙ ap (λ (g : Answer ℕ). more g (some_of cs)) ge) ∙ append-nil (take i out) in
-          record { said = q ∙ ap passed_up o ∙ ap (ran at (end - at)) (sym R); some = over_out (read_some s at end kinds) S }
+          record { said = ap (ran at (end - at)) (sym R); some = over_out (read_some s at end kinds) S }
 
-    pub finished : length kinds ≤ i → Answered s at end kinds out₀ out (run.Done p)
+    pub finished : length kinds ≤ i → Answered s at end kinds out₀ out (Ok p)
     unfolding run_at read_some read_all some_of
     finished h =
         let b = view s p (end - p) in
@@ -164,7 +165,7 @@ module _ {s : List ℕ} {at end : ℕ} {kinds out₀ : List ℕ} where
         let S : read_some s at end kinds ≡ take i out =
         I.some ∙ ap (λ (l : List ℕ). take i out ++ some_of (map coding l) b) (drop_of_length-le kinds h) ∙ append-nil (take i out) in
         let q : p ≡ at + (end - at - length b) = omega (arith, length_view s p (end - p), I.taken, I.behind) in
-        record { said = ap run.Done q ∙ ap (ran at (end - at)) (sym R); some = over_out (read_some s at end kinds) S }
+        record { said = ap Ok q ∙ ap (ran at (end - at)) (sym R); some = over_out (read_some s at end kinds) S }
 
 -- a run that is not refused gives all its numbers
 some_got : (cs : List Coding) (b : List Bool) (vs : List ℕ) (r : List Bool) → read_all cs b ≡ got vs r → some_of cs b ≡ vs
@@ -178,7 +179,7 @@ some_got (c ∷ cs) b vs r e =
 
 module _ (s : List ℕ) (at end : ℕ) (kinds out : List ℕ) where
   -- a run to the next place p: its numbers are laid over the slice, and what is left stands from p on
-  done_of : (p : ℕ) (g : Answer (List ℕ)) → run_at s at end kinds ≡ g → run.Done p ≡ ran at (end - at) g
+  done_of : (p : ℕ) (g : Answer (List ℕ)) → run_at s at end kinds ≡ g → Ok p ≡ ran at (end - at) g
       → (vs : List ℕ) × (g ≡ got vs (view s p (end - p))) × (length vs ≡ length kinds) × (read_some s at end kinds ≡ vs) × (p - at + (end - p) ≡ end - at)
       × (at ≤ p)
   unfolding run_at read_some
@@ -200,13 +201,13 @@ module _ (s : List ℕ) (at end : ℕ) (kinds out : List ℕ) where
       )
   done_of p (no x) e d = absurd (let z : ◌≡◌ {A = ℕ} 0 1 = cc in omega arith)
 
-  pub run_done : (p : ℕ) → run.Done p ≡ ran at (end - at) (run_at s at end kinds)
+  pub run_done : (p : ℕ) → Ok p ≡ ran at (end - at) (run_at s at end kinds)
       → (vs : List ℕ) × (run_at s at end kinds ≡ got vs (view s p (end - p))) × (length vs ≡ length kinds) × (read_some s at end kinds ≡ vs)
       × (p - at + (end - p) ≡ end - at) × (at ≤ p)
   run_done p d = done_of p (run_at s at end kinds) refl d
 
   -- a run into a slice of its own length fills it
-  pub run_filled : (p : ℕ) (now : List ℕ) → length kinds ≡ length out → run.Done p ≡ ran at (end - at) (run_at s at end kinds)
+  pub run_filled : (p : ℕ) (now : List ℕ) → length kinds ≡ length out → Ok p ≡ ran at (end - at) (run_at s at end kinds)
       → now ≡ over (read_some s at end kinds) out → (run_at s at end kinds ≡ got now (view s p (end - p))) × (p - at + (end - p) ≡ end - at) × (at ≤ p)
   run_filled p now l d f =
       let (vs, e, n, q, t, b) = run_done p d in
@@ -214,6 +215,6 @@ module _ (s : List ℕ) (at end : ℕ) (kinds out : List ℕ) where
       ∙ append-nil vs in
       (e ∙ ap (λ (x : List ℕ). got x (view s p (end - p))) (sym all), t, b)
 
-pub run_not : (at left : ℕ) (g : Answer (List ℕ)) (x : Refusal) → run.No x ≡ ran at left g → g ≡ no x
+pub run_not : (at left : ℕ) (g : Answer (List ℕ)) (x : Refusal) → Err x ≡ ran at left g → g ≡ no x
 run_not at left (got vs r) x e = absurd (let z : ◌≡◌ {A = ℕ} 0 1 = cc in omega arith)
 run_not at left (no y) x e = let q : y ≡ x = cc in ap no q

@@ -8,8 +8,8 @@ pub short_word-a-requires : goal.short_word-a-requires
 short_word-a-requires c =
     (omega (arith, read_lt c.args.s.now c.args.at 16 c.read_bits-k.ensures), c.requires.0)
 
-pub returns-then-minus-bits : goal.returns-then-minus-bits
-returns-then-minus-bits c =
+pub returns-then-saturating_sub-bits : goal.returns-then-saturating_sub-bits
+returns-then-saturating_sub-bits c =
     pair_cut c.args.s.now c.args.at c.args.end c.args.first c.args.second c.read_bits-k.ensures c.short_word-a.ensures
     c.short_word-b.ensures (omega arith)
 

@@ -7,7 +7,7 @@ use Rattle.short_words.proofs.short_spelling.Goals as goal
 
 pub returns-then-kind-lt-FIRST_WORDS : goal.returns-then-kind-lt-FIRST_WORDS
 returns-then-kind-lt-FIRST_WORDS c =
-    (search written_fixed, search short_bits, search rules)
+    (search written_fixed, omega (arith, short_bits {kind = c.args.kind} c.requires (search)), search rules)
 
 pub returns : goal.returns
 returns c =

@@ -5,10 +5,8 @@ use Rattle.short_words.proofs.short_word.Goals as goal
 
 pub returns-then-kind-lt-FIRST_WORDS : goal.returns-then-kind-lt-FIRST_WORDS
 returns-then-kind-lt-FIRST_WORDS c =
-    let q = c.size_from_u8-kind.ensures.0 in
-    fixed_in q (short_bits q c.requires.1 (search)) c.requires.0
+    fixed_in (search) (short_bits c.requires.1 (search)) c.requires.0
 
 pub returns : goal.returns
 returns c =
-    let q = c.size_from_u8-kind.ensures.0 in
-    norm_in q (short_norm q c.requires.1 (search)) c.requires.0 c.word_in.ensures
+    norm_in (short_norm c.requires.1 (search)) c.requires.0 c.word_in.ensures

@@ -2,11 +2,11 @@
 -- Assumes nothing.
 use mathlib.Core.Path.{◌≡◌, refl, sym, ap, ap₂, ◌∙◌}
 use mathlib.Core.Bool.{Bool, false, true, ◌&&◌}
-use mathlib.Core.List.{List, ◌∷◌, ◌++◌, []}
+use mathlib.Core.List.{List, ◌∷◌, ◌++◌, [], append-nil}
 use Prim.Native.Nat.{ℕ, zero, suc, ◌+◌, ◌-◌, ◌*◌, ◌/◌, ◌≤◌, ◌<◌, min}
 use native.Mathlib.Nat.{add-zero, zero-add}
 use native.Mathlib.Omega.{arith}
-use lib.ListN.{length, replicate, drop, set}
+use lib.ListN.{length, replicate, drop, set, drop_of_length-le}
 use Rattle.ground.specs.ListsByRule.{from, table}
 use Rattle.ground.proofs.Laws.Runs.{Fronted, fronted_none, fronted_more}
 use Rattle.bits.specs.Bits.{view, val, bytes_of, word, laid, Bytes}
@@ -61,11 +61,13 @@ module _ {s : List ℕ} {at : ℕ} {t₀ : List ℕ} where
     pub fill_turn : {v : ℕ} → i < 320 → 320 ≤ length t₀ → v ≡ val (view s (at + i * 8) 8) → Filling s at t₀ (set t i v) (i + 1)
     fill_turn h l e = record { upto = omega arith; front = fronted_more I.front (omega arith) e }
 
-    pub fill_end : 320 ≤ i → t ≡ tail_from s at ++ drop 320 t₀
+    pub fill_end : 320 ≤ i → length t₀ ≤ 320 → t ≡ tail_from s at
     unfolding tail_from
-    fill_end h =
+    fill_end h l =
         let e : i ≡ 320 = omega (arith, I.upto) in
-        I.front.same ∙ ap (λ (k : ℕ). table k (λ (j : ℕ). val (view s (at + j * 8) 8)) ++ drop k t₀) e
+        let none : drop i t₀ ≡ [] = drop_of_length-le t₀ (omega arith) in
+        I.front.same ∙ ap₂ (λ (k : ℕ) (r : List ℕ). table k (λ (j : ℕ). val (view s (at + j * 8) 8)) ++ r) e none
+        ∙ append-nil (table 320 (λ (j : ℕ). val (view s (at + j * 8) 8)))
 
 -- ---- clear
 
@@ -99,32 +101,32 @@ pub record Clearing (s : List ℕ) (at end p : ℕ) : Type 0 where
   pub behind : at ≤ p
   pub said : clear (view s at (end - at)) ≡ clear (view s p (end - p))
 
--- a step of some bits comes nearer to the end
-pub step_less : (n j k : ℕ) → (0 < n - j → 0 < k) → j < n → n - (j + k) < n - j
-step_less n j k some h = let z = some (omega arith) in omega arith
-
 pub clear_start : (s : List ℕ) (at end : ℕ) → Clearing s at end at
 clear_start s at end = record { behind = omega arith; said = refl }
 
-module _ (s : List ℕ) (at end p : ℕ) (I : Clearing s at end p) (n v : ℕ) (few : n ≤ 16) (some : n ≤ end - p) (h : p < end)
-    (e : v ≡ val (view s p (min n 16))) where
-  value : v ≡ val (view s p n)
-  value = let m : min n 16 ≡ n = omega arith in e ∙ ap (λ (k : ℕ). val (view s p k)) m
-
-  split : clear (view s at (end - at)) ≡ (clear (view s p n) && clear (view s (p + n) (end - (p + n))))
+-- a step of 16 bits, the last one of what is left
+module _ {s : List ℕ} {at end p v : ℕ} (I : Clearing s at end p) (e : v ≡ val (view s p (min (end - p) 16))) where
+  split : clear (view s at (end - at)) ≡ (clear (view s p (min (end - p) 16)) && clear (view s (p + min (end - p) 16) (end - p - min (end - p) 16)))
   split =
-      let m : end - p ≡ n + (end - (p + n)) = omega arith in
-      I.said ∙ ap (λ (k : ℕ). clear (view s p k)) m ∙ ap clear (view_add s p n (end - (p + n))) ∙ clear_append (view s p n) (view s (p + n) (end - (p + n)))
+      let n = min (end - p) 16 in
+      let m : end - p ≡ n + (end - p - n) = omega arith in
+      I.said ∙ ap (λ (k : ℕ). clear (view s p k)) m ∙ ap clear (view_add s p n (end - p - n)) ∙ clear_append (view s p n) (view s (p + n) (end - p - n))
 
   pub clear_no : (v ≡ 0 → ⊥) → clear (view s at (end - at)) ≡ false
-  clear_no z = split ∙ rw (val_some (view s p n) (λ q. z (value ∙ q)))
+  clear_no z = split ∙ rw (val_some (view s p (min (end - p) 16)) (λ q. z (e ∙ q)))
 
-  pub clear_turn : v ≡ 0 → Clearing s at end (p + n)
-  clear_turn z = record { behind = omega (arith, I.behind); said = split ∙ rw (val_zero (view s p n) (sym value ∙ z)) }
+  pub clear_turn : {q : ℕ} → v ≡ 0 → q ≡ p + min (end - p) 16 → Clearing s at end q
+  clear_turn {q} z f =
+      let n = min (end - p) 16 in
+      let m : end - p - n ≡ end - q = omega arith in
+      record {
+        behind = omega (arith, I.behind);
+        said = split ∙ rw (val_zero (view s p n) (sym e ∙ z)) (ap₂ (λ (x y : ℕ). clear (view s x y)) (sym f) m);
+      }
 
-pub clear_end : (s : List ℕ) (at end p : ℕ) → Clearing s at end p → end ≤ p → clear (view s at (end - at)) ≡ true
+pub clear_end : {s : List ℕ} {at end p : ℕ} → Clearing s at end p → end ≤ p → clear (view s at (end - at)) ≡ true
 unfolding view clear
-clear_end s at end p I h = let z : end - p ≡ 0 = omega arith in I.said ∙ ap (λ (k : ℕ). clear (view s p k)) z
+clear_end {s} {at} {end} {p} I h = let z : end - p ≡ 0 = omega arith in I.said ∙ ap (λ (k : ℕ). clear (view s p k)) z
 
 -- ---- bits copied: the first j are laid
 
@@ -137,21 +139,22 @@ pub copy_start : {s : List ℕ} {n : ℕ} {out₀ : List ℕ} {at : ℕ} → Byt
 unfolding view
 copy_start {s} {n} {out₀} {at} b = record { upto = omega arith; long = refl; same = sym (laid_none out₀ at b) }
 
-pub copy_turn : {s : List ℕ} {n : ℕ} {out₀ : List ℕ} {at : ℕ} {out : List ℕ} {j k v : ℕ} {t : List ℕ} → t ≡ laid out (at + j) (word (min k 16) v)
-    → v ≡ val (view s j (min k 16)) → Copying s n out₀ at out j → (k ≤ 16) × (k ≤ n - j) × (0 < n - j → 0 < k) → Copying s n out₀ at t (j + k)
-copy_turn {s} {n} {out₀} {at} {out} {j} {k} {v} {t} x e I (few, some, z) =
-    let m : min k 16 ≡ k = omega arith in
-    let w : word (min k 16) v ≡ view s j k =
-    ap₂ word m (e ∙ ap (λ (i : ℕ). val (view s j i)) m) ∙ (rw length_view at (word_val (view s j k))) in
+-- a step of 16 bits, the last one of what is left
+pub copy_turn : {s : List ℕ} {n : ℕ} {out₀ : List ℕ} {at : ℕ} {out : List ℕ} {j v i : ℕ} {t : List ℕ} → Copying s n out₀ at out j
+    → t ≡ laid out (at + j) (word (min (n - j) 16) v) → v ≡ val (view s j (min (n - j) 16)) → i ≡ j + min (n - j) 16 → Copying s n out₀ at t i
+copy_turn {s} {n} {out₀} {at} {out} {j} {v} {i} {t} I x e f =
+    let k = min (n - j) 16 in
+    let w : word k v ≡ view s j k = ap (word k) e ∙ (rw length_view at (word_val (view s j k))) in
     let q : at + j ≡ at + length (view s 0 j) = ap (λ (i : ℕ). at + i) (sym (length_view s 0 j)) in
-    let r : view s 0 j ++ view s j k ≡ view s 0 (j + k) = ap (λ (i : ℕ). view s 0 j ++ view s i k) (sym (zero-add j)) ∙ sym (view_add s 0 j k) in
+    let r : view s 0 j ++ view s j k ≡ view s 0 i =
+    ap (λ (i : ℕ). view s 0 j ++ view s i k) (sym (zero-add j)) ∙ sym (view_add s 0 j k) ∙ ap (view s 0) (sym f) in
     record {
-      upto = omega arith;
-      long = ap length x ∙ length_laid out (at + j) (word (min k 16) v) ∙ I.long;
+      upto = omega (arith, I.upto);
+      long = ap length x ∙ length_laid out (at + j) (word k v) ∙ I.long;
       same =
           x ∙ ap (laid out (at + j)) w ∙ ap₂ (λ (y : List ℕ) (i : ℕ). laid y i (view s j k)) I.same q ∙ laid_append out₀ at (view s 0 j) (view s j k)
           ∙ ap (laid out₀ at) r;
     }
 
-pub copy_end : (s : List ℕ) (n : ℕ) (out₀ : List ℕ) (at : ℕ) (out : List ℕ) (j : ℕ) → Copying s n out₀ at out j → n ≤ j → out ≡ laid out₀ at (view s 0 n)
-copy_end s n out₀ at out j I h = let e : j ≡ n = omega (arith, I.upto) in I.same ∙ ap (λ (i : ℕ). laid out₀ at (view s 0 i)) e
+pub copy_end : {s : List ℕ} {n : ℕ} {out₀ : List ℕ} {at : ℕ} {out : List ℕ} {j : ℕ} → Copying s n out₀ at out j → n ≤ j → out ≡ laid out₀ at (view s 0 n)
+copy_end {s} {n} {out₀} {at} {out} {j} I h = let e : j ≡ n = omega (arith, I.upto) in I.same ∙ ap (λ (i : ℕ). laid out₀ at (view s 0 i)) e

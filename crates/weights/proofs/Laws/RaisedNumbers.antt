@@ -20,14 +20,13 @@ use Rattle.ground.specs.LargerSmaller.{max_z, min_z}
 use Rattle.ground.proofs.Laws.LargerSmaller.{is_lt, is_max, is_min, is_scale, is_div}
 use Rattle.ground.specs.Sums.{nth, sum_to}
 use Rattle.ground.proofs.Laws.Sums.{sum_nil, sum_front}
-use Rattle.ground.proofs.Laws.PrintedTables.{every_at}
 use Rattle.ground.specs.Differences.{Is}
 use Rattle.ground.proofs.Laws.Differences.{is_pos, is_unique, is_same, is_add, is_sub}
 use Rattle.weights.specs.Table17.{table17, row_at, bands_of, height_of, lift_of, floor_of, row_of}
-use Rattle.weights.specs.Inner.{loud, quarter, quarters, row, up, down, excess, most, least, scaled, raised_rows}
+use Rattle.weights.specs.Inner.{loud, quarter, quarters, row, smooth, turned, excess, most, least, scaled, raised_rows}
 use Rattle.weights.specs.Weights.{nth_z, loudness, louds, sum_over, spe, spes, score, bspe, forward, backward, renormed, largest, smallest, mapped}
 use Rattle.weights.specs.Weights.{row_weights, spread, weights_of}
-use Rattle.weights.proofs.Laws.Printed.{firsts, first_is, first_in, part_is, part_times}
+use Rattle.weights.proofs.Laws.Printed.{at_rows, bands_in, part_height}
 use Rattle.weights.proofs.Laws.Stages.{most_ge}
 
 -- the same place of two tables
@@ -59,22 +58,15 @@ alike_same (x ∷ xs) (y ∷ ys) t =
 module _ (b : ℕ) (h : b < 20) where
   bands_run : bands_of b ≡ run (nth (bands_of b) 0) (height_of b)
   unfolding table17 row_at run alike
-  bands_run =
-      alike_same _ _ (rw (first_is b h) at (every_at (λ b x. alike (bands_of b) (run x (height_of b))) firsts 0 tt b h))
+  bands_run = alike_same _ _ (at_rows (λ b r. alike (bands_of b) (run (nth (bands_of b) 0) (height_of b))) tt b h)
 
   floor_lift : 720 * lift_of b ≤ 720 * (floor_of b + 5)
   unfolding table17 row_at
-  floor_lift = leb→le _ _ (every_at (λ b x. leb (720 * lift_of b) (720 * (floor_of b + 5))) firsts 0 tt b h)
+  floor_lift = leb→le _ _ (at_rows (λ b r. leb (720 * lift_of b) (720 * (floor_of b + 5))) tt b h)
 
   height_pos : 0 < height_of b
   unfolding table17 row_at
-  height_pos = leb→le _ _ (every_at (λ b x. leb 1 (height_of b)) firsts 0 tt b h)
-
-  part_height : 180 / height_of b * height_of b ≡ 180
-  part_height = rw (← part_is b h) (part_times b h)
-
-  bands_in : nth (bands_of b) 0 + height_of b ≤ 44
-  bands_in = rw (← first_is b h) (first_in b h)
+  height_pos = leb→le _ _ (at_rows (λ b r. leb 1 (height_of b)) tt b h)
 
 -- ---- (23)
 loud_is : (x : ℕ) → x ≤ 39 → Is (loudness x) (39 - x) 5
@@ -151,15 +143,25 @@ smoothed {x = x} {y = y} {k = k} d p q =
     is_same _ _ (is_max (is_same (x + d) (k + d) p (omega arith)) (is_same y (k + d) (is_sub q (is_pos d)) (omega arith))) (omega arith)
 
 module _ (bs : List ℤ) (rs : List ℕ) (e : (k : ℕ) → k < 20 → Is (nth_z bs k) (nth rs k) 3600) where
-  up_is : (b : ℕ) → b < 20 → Is (forward bs b) (up rs b) 3600
-  unfolding forward up
+  up_is : (b : ℕ) → b < 20 → Is (forward bs b) (smooth 2880 rs b) 3600
+  unfolding forward smooth
   up_is zero h = e 0 h
   up_is (suc b) h = smoothed 2880 (e (suc b) h) (up_is b (omega arith))
 
-  down_is : (k : ℕ) → k < 20 → Is (backward bs k) (down rs k) 3600
-  unfolding backward down
-  down_is zero h = e 19 (omega arith)
-  down_is (suc k) h = smoothed 5760 (e (19 - suc k) (omega arith)) (down_is k (omega arith))
+  turned_at : (k : ℕ) → k < 20 → Is (nth_z bs (19 - k)) (nth (turned rs) k) 3600
+  unfolding turned
+  turned_at k h = rw (get_d_table (λ b. nth rs (19 - b)) 20 0 k h) (e (19 - k) (omega arith))
+
+  down_is : (k : ℕ) → k < 20 → Is (backward bs k) (smooth 5760 (turned rs) k) 3600
+  unfolding backward smooth
+  down_is zero h = turned_at 0 h
+  down_is (suc k) h = smoothed 5760 (turned_at (suc k) h) (down_is k (omega arith))
+
+  down_at : (b : ℕ) → b < 20 → Is (backward bs (19 - b)) (nth (turned (table 20 (smooth 5760 (turned rs)))) b) 3600
+  unfolding turned
+  down_at b h =
+      let g : (c : ℕ) → ℕ = λ c. nth (table 20 (smooth 5760 (turned rs))) (19 - c) in
+      rw (get_d_table g 20 0 b h, get_d_table (smooth 5760 (turned rs)) 20 0 (19 - b) (omega arith)) (down_is (19 - b) (omega arith))
 
   -- ---- (27)
   excess_is : (b : ℕ) → b < 20 → Is (renormed bs b) 3600 (excess rs b)
@@ -223,11 +225,12 @@ rows_same transient norms low =
     let n24 = table 20 (row (quarters transient norms)) in
     let e24 = at_table (bspe (spes transient norms)) (row (quarters transient norms)) 20 3600 (row_is transient norms low) in
     let z25 = table 20 (forward z24) in
-    let n25 = table 20 (up n24) in
-    let e25 = at_table (forward z24) (up n24) 20 3600 (up_is z24 n24 e24) in
+    let n25 = table 20 (smooth 2880 n24) in
+    let e25 = at_table (forward z24) (smooth 2880 n24) 20 3600 (up_is z24 n24 e24) in
     let z26 = table 20 (λ b. backward z25 (19 - b)) in
-    let n26 = table 20 (λ b. down n25 (19 - b)) in
-    let e26 = at_table (λ b. backward z25 (19 - b)) (λ b. down n25 (19 - b)) 20 3600 (λ b h. down_is z25 n25 e25 (19 - b) (omega arith)) in
+    let n26 = turned (table 20 (smooth 5760 (turned n25))) in
+    let e26 : (k : ℕ) → k < 20 → Is (nth_z z26 k) (nth n26 k) 3600 =
+    λ k h. rw (get_d_table (λ b. backward z25 (19 - b)) 20 (pos 0) k h) (down_at z25 n25 e25 k h) in
     let z27 = table 20 (renormed z26) in
     let ds = table 20 (excess n26) in
     let e27 : (k : ℕ) → k < 20 → Is (nth_z z27 k) 3600 (nth ds k) =
@@ -243,6 +246,3 @@ weights_made transient norms t er ew es = rw (es, ew, er, rows_same transient no
 pub score_is : (index w : ℕ) → index ≤ 39 → Is (score index w) (912 - 16 * index + w) 368
 unfolding score
 score_is index w h = is_same _ _ (is_add (is_scale 16 (loud_is index h)) (is_pos w)) (omega arith)
-
-pub score_made : (index w : ℕ) {z : ℤ} {i v u : ℕ} → index ≤ 39 → i ≡ index → v ≡ w → u ≡ 912 - 16 * i + v → Is z u 368 → z ≡ score index w
-score_made index w h ei ev eu s = is_unique s (is_same _ _ (score_is index w h) (omega arith))

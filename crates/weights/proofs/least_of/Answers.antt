@@ -1,12 +1,8 @@
--- The smallest of the rows passed. Assumes nothing.
-use Rattle.ground.proofs.Laws.FillingLoops.{reaching}
-use Rattle.weights.proofs.Laws.Stages.{least_first, least_next}
+-- The smallest of the rows. Assumes nothing.
+use Rattle.std.proofs.Common.{rules}
+use Rattle.weights.proofs.Laws.Stages.{least_is}
 use Rattle.weights.proofs.least_of.Goals as goal
 
-pub loop-i-init : goal.loop-i-init
-loop-i-init c =
-    search (reaching, least_first)
-
-pub loop-i-preserved : goal.loop-i-preserved
-loop-i-preserved c =
-    search (reaching, least_next)
+pub returns : goal.returns
+returns c =
+    least_is c.args.ds.now c.min.result c.told-ds (search rules) (search rules) c.unwrap_or.ensures

@@ -1,12 +1,8 @@
--- The largest of the rows passed. Assumes nothing.
-use Rattle.ground.proofs.Laws.FillingLoops.{reaching}
-use Rattle.weights.proofs.Laws.Stages.{most_first, most_next}
+-- The largest of the rows. Assumes nothing.
+use Rattle.std.proofs.Common.{rules}
+use Rattle.weights.proofs.Laws.Stages.{most_is}
 use Rattle.weights.proofs.most_of.Goals as goal
 
-pub loop-i-init : goal.loop-i-init
-loop-i-init c =
-    search (reaching, most_first)
-
-pub loop-i-preserved : goal.loop-i-preserved
-loop-i-preserved c =
-    search (reaching, most_next)
+pub returns : goal.returns
+returns c =
+    most_is c.args.ds.now c.max.result c.told-ds (search rules) (search rules) c.unwrap_or.ensures

@@ -1,7 +1,8 @@
--- The table of quarters, place by place. Assumes nothing.
-use Rattle.ground.proofs.Laws.FillingLoops.{filling}
+-- The table of quarters, a call for each place. Assumes nothing.
+use Rattle.std.proofs.Common.{rules}
+use Rattle.ground.proofs.Laws.MadeByCalls.{from_fn_table}
 use Rattle.weights.proofs.quarters.Goals as goal
 
 pub returns : goal.returns
 returns c =
-    search filling
+    from_fn_table c.from_fn.ensures.items (λ i y q l w. search rules)

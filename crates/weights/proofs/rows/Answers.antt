@@ -1,13 +1,8 @@
--- (24), place by place: a part of 180 for each of H_b bands, and 720 T_b. Assumes nothing.
-use Rattle.ground.proofs.Laws.FillingLoops.{filling}
-use Rattle.weights.proofs.Laws.Printed.{first_is, height_is, lift_is, part_is}
-use Rattle.weights.proofs.Laws.Stages.{row_made}
+-- (24), a call for each row. Assumes nothing.
+use Rattle.std.proofs.Common.{rules}
+use Rattle.ground.proofs.Laws.MadeByCalls.{from_fn_table}
 use Rattle.weights.proofs.rows.Goals as goal
-
-pub loop-i-preserved : goal.loop-i-preserved
-loop-i-preserved c =
-    search (filling, row_made, part_is, first_is, height_is, lift_is)
 
 pub returns : goal.returns
 returns c =
-    search filling
+    from_fn_table c.from_fn.ensures.items (λ i y q l w. search rules)

@@ -1,10 +1,10 @@
--- (31): the raised score is the paper's plus 368. Assumes nothing.
-use borrow.Author.Rules.{sfits_of}
-use mathlib.Core.Path.{◌∙◌}
-use mir.Facts.{to_z-of_z}
-use Rattle.weights.proofs.Laws.RaisedNumbers.{score_made}
+-- (31), in signed numbers. Assumes nothing.
+use Rattle.std.proofs.Common.{arith}
+use Rattle.std.proofs.lemmas.Int.{ints}
+use Rattle.weights.specs.Weights.{score, loudness}
 use Rattle.weights.proofs.score_of.Goals as goal
 
 pub returns : goal.returns
+unfolding score loudness
 returns c =
-    search (score_made, to_z-of_z, sfits_of, ◌∙◌)
+    omega (arith, ints)

@@ -1,12 +1,8 @@
--- (31), place by place. Assumes nothing.
-use Rattle.ground.proofs.Laws.FillingLoops.{filling}
-use Rattle.ground.proofs.Laws.Indices.{range_at}
+-- (31), a call for each band. Assumes nothing.
+use Rattle.std.proofs.Common.{rules}
+use Rattle.ground.proofs.Laws.MadeByCalls.{from_fn_table}
 use Rattle.weights.proofs.scores_of.Goals as goal
-
-pub score_of-z-requires : goal.score_of-z-requires
-score_of-z-requires c =
-    search (range_at, c.requires.1)
 
 pub returns : goal.returns
 returns c =
-    search filling
+    from_fn_table c.from_fn.ensures.items (λ i y q l w. search rules)

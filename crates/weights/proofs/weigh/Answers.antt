@@ -9,4 +9,4 @@ returns-then-in_range c =
 
 pub returns : goal.returns
 returns c =
-    search (weighed_no, ◌∙◌, sym)
+    weighed_no _ _ (sym c.in_range.ensures ∙ c.if-in_range.false) c.into.ensures

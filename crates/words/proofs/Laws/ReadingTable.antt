@@ -11,7 +11,7 @@ use lib.Dec.{T, ltb, ltb→lt}
 use lib.ListN.{length, get_or, take}
 use borrow.Author.Tests.{eq-eqb, ne_eqb}
 use Rattle.ground.proofs.Laws.Cases.{and_T}
-use Rattle.ground.proofs.Laws.PrintedTables.{every_at}
+use Rattle.ground.proofs.Laws.PrintedTables.{every, every_at}
 use Rattle.bits.specs.Bits.{word, val, view}
 use Rattle.bits.proofs.Laws.NumbersAsBits.{word_val}
 use Rattle.bits.proofs.Laws.Views.{length_view, view_add, take_view, view_lt}
@@ -22,12 +22,11 @@ use Rattle.norm_words.specs.Table16.{table16}
 use Rattle.norm_words.specs.Shape.{word_in}
 use Rattle.norm_words.specs.declared.Found.{Found}
 use Rattle.norm_words.proofs.Laws.Shape.{Begins, shape_reads, long16}
-use Rattle.words.specs.Tables.{words, refused, lacking, column, column_of, table20}
+use Rattle.words.specs.Tables.{words, refused, column}
 use Rattle.words.proofs.Laws.Tables.{free_words, size16}
-use Rattle.words.specs.declared.Word.TheVariants.{At, No}
-use Rattle.words.specs.Answers.{placed}
+use Rattle.std.specs.declared.result.Result.TheVariants.{Err}
+use Rattle.words.specs.Answers.{whole_word, placed}
 use Rattle.words.specs.Inner.{same, begins, right}
-use Rattle.words.specs.ReadingTable.{reading_table}
 
 same_eq : (w u : List Bool) → T (same w u) → w ≡ u
 same_eq [] [] t = refl
@@ -59,15 +58,15 @@ module _ {s : List ℕ} {p c v n : ℕ} (m : ℕ) (B : StandsAt s p c v n) where
       ∙ find_word all 0 v (view s (p + n) (m - n)) (free_words c) B.inside
       ∙ ap (λ (k : ℕ). got k (view s (p + n) (m - n))) (zero-add v)
 
-  pub stands_fine : n ≤ m → v < length (words c) → At v (p + n) ≡ placed p m (unword (column c) (view s p m))
+  pub stands_fine : n ≤ m → v < length (words c) → whole_word v (p + n) ≡ placed p m (unword (column c) (view s p m))
   stands_fine h l =
       let next : p + n ≡ p + (m - (m - n)) = omega arith in
-      rw (found_fine (words c) (refused c) (view s p m) v (view s (p + n) (m - n)) (begun h) l, length_view s (p + n) (m - n)) (ap (At v) next)
+      rw (found_fine (words c) (refused c) (view s p m) v (view s (p + n) (m - n)) (begun h) l, length_view s (p + n) (m - n)) (ap (whole_word v) next)
 
-  pub stands_refused : n ≤ m → length (words c) ≤ v → No Missing ≡ placed p m (unword (column c) (view s p m))
+  pub stands_refused : n ≤ m → length (words c) ≤ v → Err Missing ≡ placed p m (unword (column c) (view s p m))
   stands_refused h l = rw (found_refused (words c) (refused c) (view s p m) v (view s (p + n) (m - n)) (begun h) l)
 
-  pub stands_cut : m < n → No Past ≡ placed p m (unword (column c) (view s p m))
+  pub stands_cut : m < n → Err Past ≡ placed p m (unword (column c) (view s p m))
   unfolding all
   stands_cut h =
       let q : m + (n - m) ≡ n = omega arith in
@@ -96,10 +95,10 @@ module _ (s : List ℕ) (p m : ℕ) {z : ℕ} {w : Found} (q : z ≡ val (view s
   pub norm_number : w.number < 65536
   norm_number = omega (arith, found_there.inside)
 
-  pub norm_cut : m < w.bits → No Past ≡ placed p m (unword (column 4) (view s p m))
+  pub norm_cut : m < w.bits → Err Past ≡ placed p m (unword (column 4) (view s p m))
   norm_cut h = stands_cut m norm_stands h
 
-  pub norm_fine : w.bits ≤ m → At w.number (p + w.bits) ≡ placed p m (unword (column 4) (view s p m))
+  pub norm_fine : w.bits ≤ m → whole_word w.number (p + w.bits) ≡ placed p m (unword (column 4) (view s p m))
   norm_fine h = stands_fine m norm_stands h (omega (arith, found_there.inside, size16))
 
 -- ---- what an entry says
@@ -128,12 +127,9 @@ module _ (s : List ℕ) (p c e : ℕ) (t : T (right (c * 128 + val (view s p 7))
   pub entry_lt : (e ≡ 0 → ⊥) → e / 8 < length (words c)
   entry_lt z = ltb→lt _ _ (and_T (ltb (e / 8) (length (words c))) (begins c (e / 8) (e % 8) (word 7 (val (view s p 7)))) (entry_both z)).0
 
-pub reading_right : (k : ℕ) → k < 512 → T (right k (get_or reading_table k 0))
-unfolding reading_table right begins words refused lacking column_of table16 table20 word
-reading_right k h = every_at right reading_table 0 tt k h
-
-pub reading_entry_is : {k e : ℕ} (table : List ℕ) → table ≡ reading_table → k < 512 → e ≡ get_or table k 0 → T (right k e)
-reading_entry_is {k} table q h e = subst (λ (x : ℕ). T (right k x)) (sym (e ∙ ap (λ (l : List ℕ). get_or l k 0) q)) (reading_right k h)
+-- a look-up that passes the test of each entry
+pub reading_entry_is : {k e : ℕ} (t : List ℕ) → e ≡ get_or t k 0 → T (every right 0 t) → k < length t → T (right k e)
+reading_entry_is {k} t q f h = subst (λ (x : ℕ). T (right k x)) (sym q) (every_at right t 0 f k h)
 
 -- ---- what the code answers by the entry e, at the seven bits that it read
 
@@ -157,14 +153,14 @@ module _ (s : List ℕ) (p m c e : ℕ) {z : ℕ} (q : z ≡ val (view s p 7)) (
   names : (e ≡ 0 → ⊥) → StandsAt s p c (e / 8) (e % 8)
   names h = stands (e / 8) (e % 8) (omega arith) (entry_word s p c e told h)
 
-  pub column_lacking_cut : e ≡ 0 → m < 7 → No Past ≡ placed p m (unword (column c) (view s p m))
+  pub column_lacking_cut : e ≡ 0 → m < 7 → Err Past ≡ placed p m (unword (column c) (view s p m))
   column_lacking_cut h l = stands_cut m (lacks h) l
 
-  pub column_lacking : e ≡ 0 → 7 ≤ m → No Missing ≡ placed p m (unword (column c) (view s p m))
+  pub column_lacking : e ≡ 0 → 7 ≤ m → Err Missing ≡ placed p m (unword (column c) (view s p m))
   column_lacking h l = stands_refused m (lacks h) l (le_refl _)
 
-  pub column_cut : (e ≡ 0 → ⊥) → m < e % 8 → No Past ≡ placed p m (unword (column c) (view s p m))
+  pub column_cut : (e ≡ 0 → ⊥) → m < e % 8 → Err Past ≡ placed p m (unword (column c) (view s p m))
   column_cut h l = stands_cut m (names h) l
 
-  pub column_fine : (e ≡ 0 → ⊥) → e % 8 ≤ m → At (e / 8) (p + e % 8) ≡ placed p m (unword (column c) (view s p m))
+  pub column_fine : (e ≡ 0 → ⊥) → e % 8 ≤ m → whole_word (e / 8) (p + e % 8) ≡ placed p m (unword (column c) (view s p m))
   column_fine h l = stands_fine m (names h) l (entry_lt s p c e told h)

@@ -1,7 +1,7 @@
 -- The words as numbers: where a column begins, each word unpacked, its length and its bits.
 -- Assumes nothing.
 use mathlib.Core.Path.{◌≡◌, refl, sym, ap, ap₂, ◌∙◌}
-use mathlib.Core.Bool.{Bool}
+use mathlib.Core.Bool.{Bool, ◌&&◌}
 use mathlib.Core.List.{List, []}
 use Prim.Native.Nat.{ℕ, zero, suc, ◌+◌, ◌-◌, ◌*◌, ◌/◌, ◌%◌, ◌^◌, ◌≤◌, ◌<◌, min}
 use native.Mathlib.Omega.{arith}
@@ -12,7 +12,7 @@ use Rattle.ground.proofs.Laws.PrintedTables.{every, every_at}
 use Rattle.bits.specs.Bits.{word, val, laid, Bytes}
 use Rattle.bits.proofs.Laws.NumbersAsBits.{word_val, length_word, shifted_one}
 use Rattle.bits.proofs.Laws.LaidBits.{laid_none}
-use Rattle.ground.proofs.Laws.Cases.{by_bool}
+use Rattle.ground.proofs.Laws.Cases.{by_bool, and_T}
 use borrow.Author.Tests.{ltb-true, ltb-false}
 use Rattle.bits.specs.Codings.{Coding, word_of, fit}
 use Rattle.norm_words.specs.Table16.{table16}
@@ -24,7 +24,6 @@ use Rattle.words.proofs.Laws.Tables.{coding_fixed, coding_column, size16}
 use Rattle.words.proofs.Laws.Answers.{coding_bits, coding_code, coding_norm}
 use Rattle.words.specs.Inner.{packed}
 use Rattle.bits.proofs.Laws.Codings.{word_fixed}
-use Rattle.words.specs.WritingTable.{writing_table}
 
 -- no word has more than seven bits
 short : (c : ℕ) → T (every (λ (v : ℕ) (w : List Bool). ltb (length w) 8) 0 (words c))
@@ -50,34 +49,33 @@ pub word_column : (c v : ℕ) → word_of (column c) v ≡ get_or (words c) v []
 unfolding word_of
 word_column c v = refl
 
--- ---- what the code finds for a number x of a kind, both as they stand in its wider locals
+-- ---- what the code finds for a number, x in its wider local
 
-module _ (kind v : ℕ) {k x : ℕ} (q : k ≡ kind) (y : x ≡ v) where
+module _ (kind v : ℕ) {x : ℕ} (y : x ≡ v) where
   same_word : {c : Coding} → coding kind ≡ c → word_of c x ≡ word_of (coding kind) v
   same_word e = ap₂ word_of (sym e) y
 
   same_fit : {c : Coding} → coding kind ≡ c → fit c x ≡ fit (coding kind) v
   same_fit e = ap₂ fit (sym e) y
 
-  pub written_fixed : k < 16 → word k x ≡ word_of (coding kind) v
-  written_fixed h = sym (word_fixed k x) ∙ same_word (coding_bits q h)
+  pub written_fixed : {k : ℕ} → k ≡ kind → kind < 16 → word k x ≡ word_of (coding kind) v
+  written_fixed {k} q h = sym (word_fixed k x) ∙ same_word (coding_bits q h)
 
-  pub written_column : {w : List Bool} → 16 ≤ k → w ≡ word_of (column (k - 16)) x → w ≡ word_of (coding kind) v
-  written_column h e = e ∙ same_word (coding_code q h)
+  pub written_column : {c : ℕ} {w : List Bool} → c ≡ kind - 16 → 16 ≤ kind → w ≡ word_of (column c) x → w ≡ word_of (coding kind) v
+  written_column q h e = e ∙ same_word (coding_code q h)
 
-  pub written_norm : {s : Spelling} → 20 ≤ k → s ≡ spelling x → word s.bits s.value ≡ word_of (coding kind) v
+  pub written_norm : {s : Spelling} → 20 ≤ kind → s ≡ spelling x → word s.bits s.value ≡ word_of (coding kind) v
   unfolding words
-  written_norm h e =
-      ap (λ (z : Spelling). word z.bits z.value) e ∙ shape_writes x ∙ sym (word_column 4 x) ∙ same_word (coding_norm q h)
+  written_norm h e = ap (λ (z : Spelling). word z.bits z.value) e ∙ shape_writes x ∙ sym (word_column 4 x) ∙ same_word (coding_norm h)
 
-  pub fit_fixed : k < 16 → ltb x (1 * 2 ^ k % 2 ^ 64) ≡ fit (coding kind) v
-  fit_fixed h = ap (ltb x) (shifted_one k (omega arith)) ∙ same_fit (coding_bits q h)
+  pub fit_fixed : kind < 16 → ltb x (1 * 2 ^ kind % 2 ^ 64) ≡ fit (coding kind) v
+  fit_fixed h = ap (ltb x) (shifted_one kind (omega arith)) ∙ same_fit (coding_bits refl h)
 
-  pub fit_column : {n : ℕ} → 16 ≤ k → n ≡ length (words (k - 16)) → ltb x n ≡ fit (coding kind) v
-  fit_column h e = ap (ltb x) e ∙ same_fit (coding_code q h)
+  pub fit_column : {c n : ℕ} → c ≡ kind - 16 → 16 ≤ kind → n ≡ length (words c) → ltb x n ≡ fit (coding kind) v
+  fit_column q h e = ap (ltb x) e ∙ same_fit (coding_code q h)
 
-  pub fit_norm : 20 ≤ k → ltb x 32 ≡ fit (coding kind) v
-  fit_norm h = ap (ltb x) (sym size16) ∙ same_fit (coding_norm q h)
+  pub fit_norm : 20 ≤ kind → ltb x 32 ≡ fit (coding kind) v
+  fit_norm h = ap (ltb x) (sym size16) ∙ same_fit (coding_norm h)
 
 -- no word has more than 16 bits
 pub word_few : (kind v : ℕ) → length (word_of (coding kind) v) ≤ 16
@@ -113,40 +111,48 @@ pub size_is : (c : ℕ) → c < 4 → (4 * 2 ^ c % 2 ^ 64 ≡ length (words c)) 
 size_is c h = (sized c h, rw (sized c h) (many c h).0)
 
 -- so it begins after the smaller ones, as many places on as it has words itself, less four
-rule : ℕ → ℕ → ℕ → Bool
+unfoldable pub rule : ℕ → ℕ → ℕ → Bool
 rule c v e = eqb e (packed (get_or (words c) v []))
 
-part : ℕ → List ℕ
-part c = take (length (words c)) (drop (length (words c) - 4) writing_table)
+unfoldable pub part : List ℕ → ℕ → List ℕ
+part t c = take (length (words c)) (drop (length (words c) - 4) t)
 
-tested : (c : ℕ) → c < 4 → T (every (rule c) 0 (part c))
-unfolding writing_table rule part packed words column_of table20 word val
-tested zero h = tt
-tested (suc zero) h = tt
-tested (suc (suc zero)) h = tt
-tested (suc (suc (suc zero))) h = tt
-tested (suc (suc (suc (suc c)))) h = absurd (omega arith)
+-- the words of all columns, one after the other
+unfoldable pub all_words : List ℕ → Bool
+all_words t = every (rule 0) 0 (part t 0) && (every (rule 1) 0 (part t 1) && (every (rule 2) 0 (part t 2) && every (rule 3) 0 (part t 3)))
 
-writing_long : length writing_table ≡ 60
-unfolding writing_table
-writing_long = refl
+module _ (t : List ℕ) (f : T (all_words t)) (long : length t ≡ 60) where
+  tested : (c : ℕ) → c < 4 → T (every (rule c) 0 (part t c))
+  unfolding all_words
+  tested c h =
+      let a = and_T (every (rule 0) 0 (part t 0)) _ f in
+      let b = and_T (every (rule 1) 0 (part t 1)) _ a.1 in
+      let d = and_T (every (rule 2) 0 (part t 2)) _ b.1 in
+      four c h a.0 b.0 d.0 d.1
+    where
+      four : (c : ℕ) → c < 4 → T (every (rule 0) 0 (part t 0)) → T (every (rule 1) 0 (part t 1)) → T (every (rule 2) 0 (part t 2))
+          → T (every (rule 3) 0 (part t 3)) → T (every (rule c) 0 (part t c))
+      four zero h x y z w = x
+      four (suc zero) h x y z w = y
+      four (suc (suc zero)) h x y z w = z
+      four (suc (suc (suc zero))) h x y z w = w
+      four (suc (suc (suc (suc c)))) h x y z w = absurd (omega arith)
 
-entry : (c v : ℕ) → c < 4 → v < length (words c) → get_or writing_table (length (words c) - 4 + v) 0 ≡ packed (get_or (words c) v [])
-unfolding rule part
-entry c v h l =
-    let n = length (words c) in
-    let room : length (part c) ≡ n = omega (arith, length-take n (drop (n - 4) writing_table), length-drop (n - 4) writing_table, writing_long, many c h) in
-    sym (get_or-take n (drop (n - 4) writing_table) v 0 l ∙ get_or-drop (n - 4) writing_table v 0)
-    ∙ eqb→eq (get_or (part c) v 0) (packed (get_or (words c) v [])) (every_at (rule c) (part c) 0 (tested c h) v (omega arith))
+  entry : (c v : ℕ) → c < 4 → v < length (words c) → get_or t (length (words c) - 4 + v) 0 ≡ packed (get_or (words c) v [])
+  unfolding rule part
+  entry c v h l =
+      let n = length (words c) in
+      let room : length (part t c) ≡ n = omega (arith, length-take n (drop (n - 4) t), length-drop (n - 4) t, long, many c h) in
+      sym (get_or-take n (drop (n - 4) t) v 0 l ∙ get_or-drop (n - 4) t v 0)
+      ∙ eqb→eq (get_or (part t c) v 0) (packed (get_or (words c) v [])) (every_at (rule c) (part t c) 0 (tested c h) v (omega arith))
 
 -- the place that the code reads lies within the table, and the entry is the word
-module _ {c v n : ℕ} {table : List ℕ} (p : (table ≡ writing_table) × (c < 4) × (v < length (words c))) (s : (n ≡ length (words c)) × (4 ≤ n)) where
+module _ {c v n : ℕ} (p : (c < 4) × (v < length (words c))) (s : (n ≡ length (words c)) × (4 ≤ n)) where
   pub writing_inside : n - 4 + v < 60
-  writing_inside = omega (arith, s.0, s.1, p.2, many c p.1)
+  writing_inside = omega (arith, s.0, s.1, p.1, many c p.0)
 
-  pub writing_entry_is : {e : ℕ} → e ≡ get_or table (n - 4 + v) 0 → e ≡ packed (get_or (words c) v [])
-  writing_entry_is q =
-      q ∙ ap (λ (l : List ℕ). get_or l (n - 4 + v) 0) p.0 ∙ ap (λ (k : ℕ). get_or writing_table (k - 4 + v) 0) s.0 ∙ entry c v p.1 p.2
+  pub writing_entry_is : {e : ℕ} (t : List ℕ) → e ≡ get_or t (n - 4 + v) 0 → T (all_words t) → length t ≡ 60 → e ≡ packed (get_or (words c) v [])
+  writing_entry_is t q f l = q ∙ ap (λ (k : ℕ). get_or t (k - 4 + v) 0) s.0 ∙ entry t f l c v p.0 p.1
 
 -- a number without a word, and the word back from its entry
 pub spelt_none : (c n x : ℕ) → n ≡ length (words c) → n ≤ x → word 0 0 ≡ word_of (column c) x

@@ -11,7 +11,7 @@ overflow_add-c c =
 
 pub reading_entry-e-requires : goal.reading_entry-e-requires
 reading_entry-e-requires c =
-    (c.requires.0, omega (arith, view_lt c.args.s.now c.args.at 7))
+    omega (arith, view_lt c.args.s.now c.args.at 7)
 
 pub returns-then-left-lt7 : goal.returns-then-left-lt7
 returns-then-left-lt7 c =

@@ -6,8 +6,8 @@ pub returns-then-kind-lt-FIRST_WORDS : goal.returns-then-kind-lt-FIRST_WORDS
 returns-then-kind-lt-FIRST_WORDS c =
     search fit_fixed
 
-pub returns-then-kind : goal.returns-then-kind
-returns-then-kind c =
+pub returns-then-kind-lt-NORM_WORDS : goal.returns-then-kind-lt-NORM_WORDS
+returns-then-kind-lt-NORM_WORDS c =
     search fit_column
 
 pub returns : goal.returns

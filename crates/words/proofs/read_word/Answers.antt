@@ -1,9 +1,20 @@
--- `words::read_word` meets its contract: the look-up that is lent is the whole one. Assumes nothing.
-use mathlib.Core.Path.{refl}
-use Rattle.words.specs.ReadingTable.{reading_table}
+-- `words::read_word` meets its contract: nothing at an unused place, as many bits, a column's word, or a norm word. Assumes nothing.
+use mathlib.Core.Path.{◌∙◌}
+use Rattle.words.proofs.Laws.Answers.{at_none, at_fixed, at_column, at_norm}
 use Rattle.words.proofs.read_word.Goals as goal
 
-pub read_word_by-requires : goal.read_word_by-requires
-unfolding reading_table
-read_word_by-requires c =
-    refl
+pub returns-then-kind-eq0 : goal.returns-then-kind-eq0
+returns-then-kind-eq0 c =
+    search at_none
+
+pub returns-then-kind-lt-FIRST_WORDS : goal.returns-then-kind-lt-FIRST_WORDS
+returns-then-kind-lt-FIRST_WORDS c =
+    search (at_fixed, ◌∙◌)
+
+pub returns-then-kind-lt-NORM_WORDS : goal.returns-then-kind-lt-NORM_WORDS
+returns-then-kind-lt-NORM_WORDS c =
+    search (at_column, ◌∙◌)
+
+pub returns : goal.returns
+returns c =
+    search (at_norm, ◌∙◌)

@@ -6,10 +6,15 @@ use mathlib.Core.List.{List, [], ◌∷◌, ◌++◌, append_assoc, map}
 use Prim.Native.Nat.{ℕ, ◌+◌, ◌*◌, ◌^◌, ◌<◌, ◌≤◌, min}
 use native.Mathlib.Omega.{arith}
 use borrow.Author.Tests.{eqb-true, ltb-true, ltb-false, not-false, eq-eqb, ne_eqb}
+use mir.Val.{bool_byte}
 use lib.ListN.{length, take, drop, set, length-append}
 use Rattle.ground.proofs.Laws.Refusals.{by_rows, first_none, neither_first}
+use Rattle.std.specs.declared.result.Result.{Result}
+use Rattle.std.specs.declared.result.Result.TheVariants.{Ok, Err}
 use Rattle.ground.specs.Replies.{done}
-use Rattle.bits.specs.Bits.{num, word, view, laid, bytes_of, Bytes}
+use Rattle.ground.specs.Numbered.{number}
+use Rattle.ground.specs.declared.replies.Reply.{Reply}
+use Rattle.bits.specs.Bits.{word, view, laid, bytes_of, Bytes}
 use Rattle.bits.proofs.Laws.NumbersAsBits.{length_word}
 use Rattle.bits.proofs.Laws.Views.{length_view}
 use Rattle.bits.proofs.Laws.LaidBits.{laid_append, laid_behind}
@@ -20,7 +25,6 @@ use Rattle.prefix.specs.Sizes.{mode_bytes}
 use Rattle.prefix.proofs.Laws.Sizes.{mode_bounds}
 use Rattle.prefix.specs.Prefix.{byte_with, byte_of}
 use Rattle.prefix.proofs.Laws.Prefix.{byte_mode}
-use Rattle.prefix.specs.declared.Byte.{Byte}
 use Rattle.norms.specs.Legal.{LegalNorms}
 use Rattle.norms.specs.Part.{norm_bits}
 use Rattle.norms.proofs.Laws.Codec.{write_is, ok_legal}
@@ -32,14 +36,14 @@ use Rattle.kinds.specs.Budget.{noise_bits}
 use Rattle.kinds.proofs.Laws.Budget.{noise_le}
 use Rattle.frame.specs.Layout.{budget_of, code_bits, tail_left, codes_part, frame}
 use Rattle.frame.proofs.Laws.Layout.{frame_bits}
+use Rattle.ground.proofs.Laws.Numbered.{never_zero}
 use Rattle.frame.specs.declared.Record.{Record}
 use Rattle.writer.specs.Noise.{noise_fits}
 use Rattle.layout.proofs.Laws.Fits.{fits_all, all_fits}
 use Rattle.layout.specs.Parts.{flag_bits, total, kinds_for, code_causes}
-use Rattle.writer.specs.Writes.{frame_of, bytes_for, room_causes, tail_causes, write_causes, write_reply, out_after, writing_of}
+use Rattle.writer.specs.Writes.{frame_of, bytes_for, room_causes, tail_causes, write_causes, write_reply, out_after, writing_of, answered, Roomy}
 use Rattle.layout.proofs.Laws.Parts.{codes_none}
 use Rattle.writer.proofs.Laws.Writes.{rooms_enough, rooms_told, tail_none}
-use Rattle.writer.specs.declared.Writing.{Writing}
 use Rattle.writer.specs.Bodies.{body_bits, Passed}
 
 -- they are the frame's
@@ -50,7 +54,7 @@ body_is r cs ts =
     (write_is r.transient r.flag_n r.norms) (word_fixed (noise_bits r.transient) r.noise)
 
 -- the flags as a number
-pub flag_word : (a b c d : Bool) → word 4 (num a * 8 + num b * 4 + num c * 2 + num d) ≡ a ∷ b ∷ c ∷ d ∷ []
+flag_word : (a b c d : Bool) → word 4 (bool_byte a * 8 + bool_byte b * 4 + bool_byte c * 2 + bool_byte d) ≡ a ∷ b ∷ c ∷ d ∷ []
 unfolding word
 flag_word true true true true = refl
 flag_word true true true false = refl
@@ -68,6 +72,10 @@ flag_word false false true true = refl
 flag_word false false true false = refl
 flag_word false false false true = refl
 flag_word false false false false = refl
+
+pub flags_word : {t l n k : ℕ} (r : Record) → t ≡ bool_byte r.transient → l ≡ bool_byte r.flag_l → n ≡ bool_byte r.flag_n → k ≡ bool_byte r.flag_c
+    → word 4 (t * 8 + l * 4 + n * 2 + k) ≡ flag_bits r
+flags_word r et el en ek = rw (et, el, en, ek) (flag_word r.transient r.flag_l r.flag_n r.flag_c)
 
 -- ---- laid part after part
 
@@ -150,10 +158,10 @@ body_code {n} {m} {k} {z} {t} {ks} {s₁} {s₂} {s₃} {s₄} {s₅} r vs ts s�
     ek ez e₄
     (e₅ ∙ ap (λ (i : ℕ). laid s₄ (12 + n + m + k) (view ts 0 i)) et)
 
--- the norms, the codes and the noise have few bits
-pub few : {n m k : ℕ} (r : Record) (ks vs : List ℕ) → length ks ≡ 800 → n ≡ length (norm_bits r.transient r.flag_n r.norms)
-    → m ≡ length (write_all (map coding ks) vs) → k ≡ noise_bits r.transient → n + m + k ≤ 13506
-few r ks vs l en em ek = omega (arith, bits_few r.transient r.flag_n r.norms, run_few ks vs, noise_le r.transient)
+-- the norms and the codes have few bits
+pub few : {n m : ℕ} (r : Record) (ks vs : List ℕ) → length ks ≡ 800 → n ≡ length (norm_bits r.transient r.flag_n r.norms)
+    → m ≡ length (write_all (map coding ks) vs) → n + m ≤ 13504
+few r ks vs l en em = omega (arith, bits_few r.transient r.flag_n r.norms, run_few ks vs)
 
 pub passed : (r : Record) (cs ts : List ℕ) (room : ℕ) → write_reply r cs ts room ≡ 0 → Passed r cs ts room
 unfolding write_causes room_causes norm_causes code_causes tail_causes
@@ -229,11 +237,9 @@ pub refused_out : (x : ℕ) (r : Record) (cs ts out : List ℕ) → (x ≡ 0 →
 refused_out x r cs ts out n = (rw (ne_eqb x 0 n), rw (ne_eqb x 0 n))
 
 -- a reply other than 0 is answered alone, and leaves the output as it was
-pub refuses : (r : Record) (cs ts out : List ℕ) {w : Writing} {x : ℕ} → w ≡ record { reply = x; next = 0 } → x ≡ write_reply r cs ts (length out)
-    → (x ≡ 0 → ⊥) → (w ≡ writing_of (write_reply r cs ts (length out)) r.mode) × (out ≡ out_after (write_reply r cs ts (length out)) r cs ts out)
-refuses r cs ts out {x = x} a e n =
-    let q = refused_out x r cs ts out n in
-    (a ∙ q.0 ∙ ap (λ (y : ℕ). writing_of y r.mode) e, q.1 ∙ ap (λ (y : ℕ). out_after y r cs ts out) e)
+pub refuses : (r : Record) (cs ts out : List ℕ) (e : Reply) → number e ≡ write_reply r cs ts (length out)
+    → (answered (Err e) ≡ writing_of (write_reply r cs ts (length out)) r.mode) × (out ≡ out_after (write_reply r cs ts (length out)) r cs ts out)
+refuses r cs ts out e q = rw (← q) (refused_out (number e) r cs ts out (never_zero e))
 
 -- a record that passes, and bytes to lay it over
 pub record Ready (r : Record) (cs ts out : List ℕ) : Type 0 where
@@ -241,22 +247,18 @@ pub record Ready (r : Record) (cs ts out : List ℕ) : Type 0 where
   pub norms : length r.norms ≡ 44
   pub bytes : Bytes out
 
-pub ready : {x : ℕ} (r : Record) (cs ts out : List ℕ) → x ≡ write_reply r cs ts (length out) → x ≡ 0 → length r.norms ≡ 44 → Bytes out → Ready r cs ts out
-ready r cs ts out e z l b = record { passes = passed r cs ts (length out) (sym e ∙ z); norms = l; bytes = b }
+pub ready : (r : Record) (cs ts out : List ℕ) → done ≡ write_reply r cs ts (length out) → length r.norms ≡ 44 → Bytes out → Ready r cs ts out
+ready r cs ts out e l b = record { passes = passed r cs ts (length out) (sym e); norms = l; bytes = b }
+
+-- a mode of 0 to 19 has a prefix byte
+pub pass_prefix : {r : Record} {c t room : ℕ} {x : Reply} → Roomy r c t room → Err x ≡ byte_of r.mode → ⊥
+pass_prefix {r = r} {x = x} R e = let w : Err x ≡ Ok (byte_with 0 (r.mode + 8) 0) = e ∙ byte_mode r.mode (omega (arith, R.mode)) in absurd (cc)
 
 module _ {r : Record} {cs ts out : List ℕ} (R : Ready r cs ts out) where
-  -- a mode of 0 to 19 has a prefix byte
-  pub pass_prefix : byte_of r.mode ≡ Byte.OutOfRange → ⊥
-  pass_prefix e = let w = sym e ∙ byte_mode r.mode (omega (arith, R.passes.rooms.mode)) in let z : ◌≡◌ {A = ℕ} 0 1 = cc in omega arith
+  pass_byte : (y : ℕ) → Ok y ≡ byte_of r.mode → y ≡ byte_with 0 (r.mode + 8) 0
+  pass_byte y e = let w : ◌≡◌ {A = Result ℕ Reply} (Ok y) (Ok (byte_with 0 (r.mode + 8) 0)) = e ∙ byte_mode r.mode (omega (arith, R.passes.rooms.mode)) in cc
 
-  pass_byte : (y : ℕ) → byte_of r.mode ≡ Byte.Is y → y ≡ byte_with 0 (r.mode + 8) 0
-  pass_byte y e = ap number (sym e ∙ byte_mode r.mode (omega (arith, R.passes.rooms.mode)))
-    where
-      number : Byte → ℕ
-      number (Byte.Is b) = b
-      number Byte.OutOfRange = 0
-
-  pub pass_out : {n y : ℕ} {t : List ℕ} → n ≡ mode_bytes r.mode → byte_of r.mode ≡ Byte.Is y → t ≡ laid (set out 0 y) 8 (body_bits r (take 800 cs) ts)
+  pub pass_out : {n y : ℕ} {t : List ℕ} → n ≡ mode_bytes r.mode → Ok y ≡ byte_of r.mode → t ≡ laid (set out 0 y) 8 (body_bits r (take 800 cs) ts)
       → (record { reply = done; next = n + 1 } ≡ writing_of (write_reply r cs ts (length out)) r.mode)
       × (t ≡ out_after (write_reply r cs ts (length out)) r cs ts out)
   pass_out {n} {y} {t} en ey et =

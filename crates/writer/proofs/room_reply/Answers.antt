@@ -5,6 +5,7 @@ use Rattle.prefix.specs.Sizes.{mode_bytes}
 use Rattle.ground.proofs.Laws.Refusals.{by_rows}
 use Rattle.writer.specs.Writes.{room_causes}
 use Rattle.writer.proofs.room_reply.Goals as goal
+use Rattle.writer.proofs.room_reply.Goals.{then-codes-lt800-via-then-codes-lt800, then-codes-lt800-via-else-codes-lt800+then-tail-lt320, then-codes-lt800-via-else-codes-lt800+else-tail-lt320+then-room-from}
 
 pub returns-then-r-gt19 : goal.returns-then-r-gt19
 unfolding room_causes
@@ -14,18 +15,12 @@ returns-then-r-gt19 c =
 pub returns-then-codes-lt800 : goal.returns-then-codes-lt800
 unfolding room_causes
 returns-then-codes-lt800 c =
-    search by_rows
-
-pub returns-then-tail-lt320 : goal.returns-then-tail-lt320
-unfolding room_causes
-returns-then-tail-lt320 c =
-    search by_rows
-
-pub returns-then-room-size_from_u16 : goal.returns-then-room-size_from_u16
-unfolding room_causes
-returns-then-room-size_from_u16 c =
-    let short : c.args.room < mode_bytes c.args.r.mode + 1 = omega arith in
-    search (by_rows, short)
+    elim c.then-codes-lt800.branch [
+      | then-codes-lt800-via-then-codes-lt800 w ↦ search by_rows
+      | then-codes-lt800-via-else-codes-lt800+then-tail-lt320 w ↦ search by_rows
+      | then-codes-lt800-via-else-codes-lt800+else-tail-lt320+then-room-from w ↦
+          (let short : c.args.room < mode_bytes c.args.r.mode + 1 = omega arith in search (by_rows, short))
+    ]
 
 pub returns-then-not-is_quiet : goal.returns-then-not-is_quiet
 unfolding room_causes

@@ -1,13 +1,11 @@
--- `ground::indices::in_range` meets its contract: every index passed is at most 39. Assumes nothing.
-use mathlib.Core.Path.{sym}
-use native.Mathlib.Omega.{arith}
-use Rattle.ground.proofs.Laws.Indices.{range_no, range_yes}
+-- `ground::indices::in_range` meets its contract: the chain passes exactly where each index is at most 39. Assumes nothing.
+use Rattle.std.proofs.Common.{rules, ◌≡◌, ℕ, ◌<◌, ◌≤◌, true, get_or, length}
+use Rattle.ground.proofs.Laws.Indices.{range_told}
 use Rattle.ground.proofs.indices.in_range.Goals as goal
-
-pub returns-then-norms-i-gt39 : goal.returns-then-norms-i-gt39
-returns-then-norms-i-gt39 c =
-    sym (range_no _ 44 c.loop-i.i (omega arith) c.if-norms-i-gt39.true)
 
 pub returns : goal.returns
 returns c =
-    sym (range_yes _ 44 (λ k h. c.loop-i.invariant.1 k (omega arith)))
+    let norms = c.args.norms.now in
+    let each : c.all.result ≡ true → (k : ℕ) → k < length norms → get_or norms k 0 ≤ 39 = search rules in
+    let all : ((k : ℕ) → k < length norms → get_or norms k 0 ≤ 39) → c.all.result ≡ true = search rules in
+    range_told _ norms c.told-norms each all

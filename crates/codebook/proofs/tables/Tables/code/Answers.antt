@@ -1,0 +1,12 @@
+-- `codebook::tables::Tables::code` meets its contract: a row's code is in one table or the other. Assumes nothing.
+use native.Mathlib.Omega.{arith}
+use Rattle.codebook.proofs.Laws.Rows.{code_two, code_sign}
+use Rattle.codebook.proofs.tables.Tables.code.Goals as goal
+
+pub returns-then-n-lt128 : goal.returns-then-n-lt128
+returns-then-n-lt128 c =
+    code_two c.args.self.now.low_kept c.if-n-lt128.true c.from.ensures c.from-then-n-lt128.ensures
+
+pub returns-else-n-lt128 : goal.returns-else-n-lt128
+returns-else-n-lt128 c =
+    code_sign c.args.self.now.high_kept c.if-n-lt128.false (omega arith) c.from-else-n-lt128.ensures c.from-s.ensures

@@ -1,3 +1,0 @@
--- The laws of this crate, for its own proofs and for the crates above.
-pub mod Bytes
-pub mod Told

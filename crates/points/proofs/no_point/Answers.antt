@@ -1,9 +1,0 @@
--- `points::no_point` meets its contract: eight zeros. Assumes nothing.
-use mathlib.Core.Path.{refl}
-use Rattle.ground.specs.ListsByRule.{from}
-use Rattle.points.proofs.no_point.Goals as goal
-
-pub returns : goal.returns
-unfolding from
-returns c =
-    refl

@@ -1,7 +1,0 @@
--- `words::word_bits_by` meets its contract: as many bits as were spelt. Assumes nothing.
-use Rattle.words.proofs.Laws.WritingTable.{written_long}
-use Rattle.words.proofs.word_bits_by.Goals as goal
-
-pub returns : goal.returns
-returns c =
-    search written_long
