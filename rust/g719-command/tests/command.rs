@@ -280,19 +280,27 @@ fn a_full_disk() {
 #[test]
 fn a_closed_pipe() {
     let folder = Folder::new("pipe");
-    let mut command = folder.command(&["list", "-"]);
-    command
-        .stdin(Stdio::piped())
-        .stdout(Stdio::piped())
-        .stderr(Stdio::piped());
-    let mut child = command.spawn().unwrap();
-    drop(child.stdout.take());
-    child.stdin.take().unwrap().write_all(&report()).unwrap();
-    let run = Run::from(child.wait_with_output().unwrap());
-    assert_eq!(
-        run,
-        Run::of(2, "", "g719: output not written: Broken pipe (os error 32)\n")
-    );
+    let run = || {
+        let mut command = folder.command(&["list", "-"]);
+        command
+            .stdin(Stdio::piped())
+            .stdout(Stdio::piped())
+            .stderr(Stdio::piped());
+        let mut child = command.spawn().unwrap();
+        drop(child.stdout.take());
+        child.stdin.take().unwrap().write_all(&report()).unwrap();
+        Run::from(child.wait_with_output().unwrap())
+    };
+    let closed = Run::of(2, "", "g719: output not written: Broken pipe (os error 32)\n");
+    // A test beside this one that starts a program at the very moment of the drop holds the pipe's end open until
+    // that program runs: then the pipe is not closed, and the next one is.
+    for _ in 0..50 {
+        if run() == closed {
+            return;
+        }
+        sleep(Duration::from_millis(10));
+    }
+    assert_eq!(run(), closed);
 }
 
 /// Behind a link the file is replaced and the link stays; a folder is not written to.
