@@ -2,14 +2,14 @@
 -- exactly as they were." That no call faults is what the proof of each function says, and no public call asks anything of its caller. Here is the rest.
 -- The calls stand in Calls; `OneOf xs n` says that n is one of xs.
 -- Assumes nothing.
-use Rattle.std.specs.Prelude.{◌≡◌, Bool, false, cond, List, [], ◌∷◌, ℕ, ◌<◌, eqb, ℤ, pos, replicate}
+use Rattle.std.specs.Prelude.{◌≡◌, Bool, false, cond, List, [], ◌∷◌, ℕ, ◌-◌, ◌<◌, eqb, ℤ, pos, replicate}
 use Rattle.ground.specs.Refusals.{OneOf}
 use Rattle.ground.specs.Replies.{done, no_data, wrong_channels}
 use Rattle.words.specs.Answers.{word_at, number_of}
-use Rattle.std.specs.Prelude.{Result}
+use Rattle.std.specs.Prelude.{Result, Err}
 use Rattle.bits.specs.declared.Refusal.{Refusal}
 use Rattle.words.specs.declared.Word.{Word}
-use Rattle.runs.specs.Runs.{passed_up, run_reply}
+use Rattle.runs.specs.Runs.{run_at, ran, passed_up, run_reply}
 use Rattle.frame.specs.Answers.{no_record, stopped_at}
 use Rattle.frame.specs.declared.Record.{Record}
 use Rattle.block_writer.specs.declared.Records.{Records}
@@ -48,6 +48,9 @@ pub record Numbered : Type 0 where
   -- "A decoded word is a number with its next place, or a refusal": 6 or 7, and a run of words passes that number up
   pub word : (s : List ℕ) (at end kind : ℕ) → OneOf (0 ∷ 6 ∷ 7 ∷ []) (number_of (word_at s at end kind))
   pub run : (w : Result Word Refusal) → run_reply (passed_up w) ≡ number_of w
+  -- a run whose first word is refused is refused as that word is, whatever words would follow
+  pub run_refused : (s : List ℕ) (at end kind : ℕ) (kinds : List ℕ) (x : Refusal) → Err x ≡ word_at s at end kind
+      → ran at (end - at) (run_at s at end (kind ∷ kinds)) ≡ Err x
 
 -- ---- "… a refused call leaves lent buffers exactly as they were": every reply but 0, 14 too
 

@@ -1,8 +1,8 @@
 -- The numbers that each call can answer.
 -- Assumes nothing.
-use mathlib.Core.Path.{◌≡◌, refl, sym, subst}
+use mathlib.Core.Path.{◌≡◌, refl, sym, ap, subst}
 use mathlib.Core.Bool.{Bool, true, false, ◌&&◌}
-use mathlib.Core.List.{List, [], ◌∷◌, ◌++◌}
+use mathlib.Core.List.{List, [], ◌∷◌, ◌++◌, map}
 use mathlib.Core.Option.{Option, some, none}
 use Prim.Native.Nat.{ℕ, suc, ◌-◌, ◌^◌}
 use lib.Dec.{eqb, ltb, leb}
@@ -14,9 +14,10 @@ use Rattle.ground.specs.Refusals.{among, OneOf}
 use Rattle.ground.proofs.Laws.Refusals.{first_number}
 use Rattle.bits.specs.Bits.{view}
 use Rattle.bits.specs.Codings.{Coding, fixed, prefix, Answer, got, no, or_else, find, strip, keep, below as below_in, whole, unword}
+use Rattle.bits.specs.Codecs.{read_all}
 use Rattle.words.specs.Tables.{coding}
 use Rattle.words.specs.Answers.{placed, word_at, number_of}
-use Rattle.runs.specs.Runs.{passed_up, run_reply}
+use Rattle.runs.specs.Runs.{run_at, ran, passed_up, run_reply}
 use Rattle.std.specs.Prelude.{Result, Ok, Err}
 use Rattle.bits.specs.declared.Refusal.{Refusal}
 use Rattle.ground.specs.declared.replies.Reply.{Reply}
@@ -236,6 +237,16 @@ pub word_passed : (w : Result Word Refusal) → run_reply (passed_up w) ≡ numb
 word_passed (Ok w) = refl
 word_passed (Err x) = refl
 
+pub run_refused : (s : List ℕ) (at end kind : ℕ) (kinds : List ℕ) (x : Refusal) → Err x ≡ word_at s at end kind
+    → ran at (end - at) (run_at s at end (kind ∷ kinds)) ≡ Err x
+unfolding word_at run_at read_all
+run_refused s at end kind kinds x e = go (unword (coding kind) (view s at (end - at))) refl e
+  where
+    go : (g : Answer ℕ) → unword (coding kind) (view s at (end - at)) ≡ g → Err x ≡ placed at (end - at) g
+        → ran at (end - at) (read_all (map coding (kind ∷ kinds)) (view s at (end - at))) ≡ Err x
+    go (got v r) q d = absurd (cc)
+    go (no y) q d = let z : y ≡ x = cc in rw q (ap Err z)
+
 -- ---- norms, weights, shares and points: 0, 8
 
 abbrev two : List ℕ
@@ -308,4 +319,5 @@ numbered =
           (eqb (block_written.block_reply r channels codes tails (length out)) 0) _ _ tt (write_block_number r channels codes tails (length out));
       word = word_number;
       run = word_passed;
+      run_refused = run_refused;
     }
