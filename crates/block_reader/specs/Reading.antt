@@ -8,8 +8,7 @@ use Rattle.ground.specs.Replies.{done}
 use Rattle.frame.specs.Answers as frame
 use Rattle.frame.specs.Answers.{Outcome, reading_of, stopped_at}
 use Rattle.recording.specs.Walk.{stored_at}
-use Rattle.recording.specs.Blocks.{block_step}
-use Rattle.recording.specs.Told.{step_reply}
+use Rattle.recording.specs.Blocks.{block_step, step_reply}
 use Rattle.frames.specs.Places.{place_of}
 use Rattle.frames.specs.Rooms.{room_causes}
 use Rattle.block_reader.specs.declared.Block.{Block}

@@ -5,7 +5,7 @@ ghost use Rattle.codebook.specs.Packed.{code};
 ghost use Rattle.codebook.specs.Rows.{twos, signs};
 
 // Rows 0 to 127: 256 times the places of 2, and the places of -2
-pub const TWOS: [u16; 128] = [
+pub static TWOS: [u16; 128] = [
     1, 2, 4, 8, 16, 32, 64, 128, 256, 512, 1024, 2048, 4096, 8192, 16384, 32768, 3, 5, 9, 17, 33,
     65, 129, 6, 10, 18, 34, 66, 130, 12, 20, 36, 68, 132, 24, 40, 72, 136, 48, 80, 144, 96, 160,
     192, 513, 1025, 2049, 4097, 8193, 16385, 32769, 1026, 2050, 4098, 8194, 16386, 32770, 2052,
@@ -17,7 +17,7 @@ pub const TWOS: [u16; 128] = [
 ];
 
 // Rows 128 to 255: the byte of signs, a one for a -1
-pub const SIGNS: [u8; 128] = [
+pub static SIGNS: [u8; 128] = [
     3, 5, 9, 17, 33, 65, 129, 6, 10, 18, 34, 66, 130, 12, 20, 36, 68, 132, 24, 40, 72, 136, 48, 80,
     144, 96, 160, 192, 15, 23, 39, 71, 135, 27, 43, 75, 139, 51, 83, 147, 195, 163, 99, 29, 45, 77,
     141, 53, 85, 149, 197, 165, 101, 113, 177, 209, 225, 57, 89, 153, 201, 169, 105, 240, 232, 216,
@@ -27,20 +27,20 @@ pub const SIGNS: [u8; 128] = [
     95, 63, 255, 0,
 ];
 
-// The two tables. A search lends them, so that it copies them once.
-#[derive(Drop)]
+// The two tables, read in place.
+#[derive(Clone, Copy)]
 pub struct Tables {
-    low: [u16; 128],
-    high: [u8; 128],
-    ghost low_kept: { low ≡ twos },
-    ghost high_kept: { high ≡ signs },
+    low: &'static [u16; 128],
+    high: &'static [u8; 128],
+    ghost low_kept: { low.now ≡ twos },
+    ghost high_kept: { high.now ≡ signs },
 }
 
 impl Tables {
     pub fn packed() -> Tables {
         Tables {
-            low: TWOS,
-            high: SIGNS,
+            low: &TWOS,
+            high: &SIGNS,
         }
     }
 
@@ -48,10 +48,18 @@ impl Tables {
     pub fn code(&self, n: u8) -> u32
         ensures { (result ≡ code (row n)) × (result < 65536) }
     {
+        self.code_at(usize::from(n))
+    }
+
+    // The same by a place, as a search counts them: of the first half it looks into the one table alone.
+    pub fn code_at(&self, n: usize) -> u32
+        requires { n < 256 }
+        ensures { (result ≡ code (row n)) × (result < 65536) }
+    {
         if n < 128 {
-            u32::from(self.low[usize::from(n)])
+            u32::from(self.low[n])
         } else {
-            let s = u32::from(self.high[usize::from(n - 128)]);
+            let s = u32::from(self.high[n - 128]);
             (255 - s) * 256 + s
         }
     }

@@ -21,12 +21,18 @@ pub fn put_digits(out: &mut [u8], at: usize, n: usize, k: usize) -> usize
     at + k
 }
 
-// How many digits a number has; 0 has one.
-#[tactic(auto, using(crate::proofs::Laws::Digits::width_told))]
+// How many digits a number has; 0 has one. ilog10 looks into a table, and the numbers of a listing are small.
+#[tactic(auto, using(crate::proofs::Laws::Digits::width_one, crate::proofs::Laws::Digits::width_two, crate::proofs::Laws::Digits::width_three, crate::proofs::Laws::Digits::width_four, crate::proofs::Laws::Digits::width_more))]
 fn places(n: usize) -> usize
     ensures { decimal n ≡ digits result n }
 {
-    n.max(1).ilog10() as usize + 1
+    match n {
+        0..10 => 1,
+        10..100 => 2,
+        100..1000 => 3,
+        1000..10000 => 4,
+        _ => n.ilog10() as usize + 1,
+    }
 }
 
 // Puts a label and behind it a number, without zeros in front.

@@ -20,6 +20,7 @@ struct Rounded {
 
 impl Rounded {
     // The place to change, if there is one
+    #[inline(always)]
     fn changed_place(&self) -> Option<usize>
         ensures { result ≡ cond (eqb (self.now.sum % 2) 1) (Some (largest (λ (i : ℕ). away (get_or self.now.errors i 0)) 8)) None }
     {
@@ -61,6 +62,8 @@ impl Lattice {
         x + 32768 - self.r * q
     }
 
+    // In line, as point_list, so that the divisions by r are shifts: the caller has made r from a rate.
+    #[inline(always)]
     fn rounding(self, k: &[u16; 8]) -> Rounded
         ensures { (result.sum ≡ rounded_sum self.r k.now) × Errors self.r k.now result.errors 8 }
     {
@@ -77,6 +80,7 @@ impl Lattice {
     }
 
     // The point that an index names
+    #[inline(always)]
     pub fn point_list(self, k: &[u16; 8]) -> [i16; 8]
         ensures { result ≡ point self.r k.now }
     {

@@ -1,2 +1,3 @@
 -- The laws of this crate, for its own proofs and for the crates above.
+pub mod Ends
 pub mod Shape

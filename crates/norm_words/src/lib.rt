@@ -20,7 +20,7 @@ pub struct Spelling {
 }
 
 // The word with which seven bits begin: a 0 as third bit ends it, else a 0 as fourth, else a 0 as sixth whatever the fifth is, else it has all seven.
-#[tactic(auto, unfolding(crate::specs::Shape::word_in))]
+#[tactic(auto, using(crate::proofs::Laws::Ends::ends_third, crate::proofs::Laws::Ends::ends_fourth, crate::proofs::Laws::Ends::ends_sixth, crate::proofs::Laws::Ends::ends_last))]
 pub fn word_in(seven: usize) -> Found
     ensures { (result ≡ word_in seven) × (result.bits ≤ 7) × (result.number ≤ seven + 28) }
 {
@@ -114,7 +114,7 @@ pub fn spelling_of(number: usize) -> Spelling
 pub fn beyond(x: u8, y: u8) -> u8
     ensures { (result ≡ beyond x y) × (result ≤ 1) }
 {
-    at_least(y.saturating_sub(x), 17)
+    if x < y { at_least(y - x, 17) } else { 0 }
 }
 
 // How far the number of the step from one index to the next is from the middle.

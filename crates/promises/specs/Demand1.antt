@@ -2,11 +2,11 @@
 -- exactly as they were." That no call faults is what the proof of each function says, and no public call asks anything of its caller. Here is the rest.
 -- The calls stand in Calls; `OneOf xs n` says that n is one of xs.
 -- Assumes nothing.
-use Rattle.std.specs.Prelude.{◌≡◌, Bool, false, cond, List, [], ◌∷◌, ℕ, ◌-◌, ◌<◌, eqb, ℤ, pos, replicate}
+use Rattle.std.specs.Prelude.{◌≡◌, Bool, false, cond, List, [], ◌∷◌, ◌++◌, ℕ, ◌-◌, ◌<◌, eqb, ℤ, pos, replicate}
 use Rattle.ground.specs.Refusals.{OneOf}
 use Rattle.ground.specs.Replies.{done, no_data, wrong_channels}
 use Rattle.words.specs.Answers.{word_at, number_of}
-use Rattle.std.specs.Prelude.{Result, Err}
+use Rattle.std.specs.Prelude.{Result, Ok, Err}
 use Rattle.bits.specs.declared.Refusal.{Refusal}
 use Rattle.words.specs.declared.Word.{Word}
 use Rattle.runs.specs.Runs.{run_at, ran, passed_up, run_reply}
@@ -51,6 +51,10 @@ pub record Numbered : Type 0 where
   -- a run whose first word is refused is refused as that word is, whatever words would follow
   pub run_refused : (s : List ℕ) (at end kind : ℕ) (kinds : List ℕ) (x : Refusal) → Err x ≡ word_at s at end kind
       → ran at (end - at) (run_at s at end (kind ∷ kinds)) ≡ Err x
+  -- and so is one whose words before that one are read, to the place p: the run's number is the word's
+  pub run_stopped : (s : List ℕ) (at end p kind : ℕ) (before after : List ℕ) (x : Refusal) → Ok p ≡ ran at (end - at) (run_at s at end before)
+      → Err x ≡ word_at s p end kind → let r = ran at (end - at) (run_at s at end (before ++ (kind ∷ after))) in
+      (r ≡ Err x) × (run_reply r ≡ number_of (word_at s p end kind))
 
 -- ---- "… a refused call leaves lent buffers exactly as they were": every reply but 0, 14 too
 

@@ -1,7 +1,7 @@
 -- Blocks of several channels (A.4.2; 02, No. 2): one stored frame of each channel, in order, for each 20 ms.
 -- Assumes nothing.
 use Rattle.std.specs.Prelude.{Bool, false, cond, List, ℕ, zero, suc, ◌+◌, eqb, ltb, drop}
-use Rattle.ground.specs.Replies.{no_byte, cut}
+use Rattle.ground.specs.Replies.{done, no_byte, cut}
 use Rattle.recording.specs.Walk.{Step, stops, passes, frame_step, walk_over, most_frames, check_over}
 use Rattle.recording.specs.Frames.{Frames}
 use Rattle.recording.specs.Units.{Units}
@@ -30,6 +30,11 @@ followed (passes k) rest = further k (in_block (rest k))
 unfoldable pub block_step : ℕ → List ℕ → Step
 block_step zero s = passes 0
 block_step (suc n) s = followed (frame_step s) (λ k. block_step n (drop k s))
+
+-- the number that a step answers: 0 where it passes
+abbrev pub step_reply : Step → ℕ
+step_reply (stops x) = x
+step_reply (passes n) = done
 
 -- a recording of so many channels: its own check save 11
 abbrev pub walk_blocks : ℕ → List ℕ → Check

@@ -16,8 +16,3 @@ abbrev pub told_step : Result (Option ℕ) Reply → Step
 told_step (Ok None) = stops done
 told_step (Ok (Some n)) = passes n
 told_step (Err r) = stops (number r)
-
--- the number that a step answers: 0 where it passes
-abbrev pub step_reply : Step → ℕ
-step_reply (stops x) = x
-step_reply (passes n) = done

@@ -1,4 +1,3 @@
 -- The laws of this crate, for its own proofs and for the crates above.
-pub mod Finds
 pub mod Seek
 pub mod Weights

@@ -52,7 +52,12 @@ fn find_code(tables: &Tables, x: u32, first: u8, last: u8) -> Option<u8>
     requires { first ≤ last }
     ensures { Found x first (last + 1) result }
 {
-    (first..=last).find(|n| tables.code(*n) == x)
+    for n in usize::from(first)..=usize::from(last) {
+        if tables.code_at(n) == x {
+            return Some(n as u8);
+        }
+    }
+    None
 }
 
 // The one row that can have this code

@@ -204,6 +204,10 @@ fn leaves() {
     ] {
         both_rows(first, second, third);
     }
+}
+
+// Rows of bytes drawn from seeds.
+fn drawn_bytes() {
     for seed in [1, 6, 13] {
         byte_rows(seed);
     }
@@ -215,4 +219,5 @@ fn main() {
     bounds();
     draws();
     leaves();
+    drawn_bytes();
 }

@@ -13,7 +13,7 @@ ghost use Rattle.words.specs.Inner.{right, packed};
 use bits::Refusal;
 use norm_words::Spelling;
 
-mod tables;
+pub mod tables;
 
 // The kind of a coefficient word is its rate, 2 to 5, more than this; lower kinds are as many bits.
 pub const CODE_WORDS: u8 = 14;

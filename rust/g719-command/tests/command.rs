@@ -2,12 +2,13 @@
 
 mod runs;
 
-use runs::{command_by, frame, recording, report, started, Folder, Run};
+use runs::{command_by, frame, output, recording, report, started, Folder, Run, STARTING};
 use std::fs;
 use std::io::Write;
 use std::os::unix::fs::{symlink, FileTypeExt, MetadataExt, PermissionsExt};
 use std::os::unix::process::CommandExt;
 use std::process::Stdio;
+use std::sync::PoisonError;
 use std::thread::sleep;
 use std::time::Duration;
 
@@ -210,7 +211,7 @@ fn no_permission() {
         // A test beside this one that starts a program at the very moment of the copy holds the copy open for
         // writing until that program runs: then it is busy (26), and soon is not.
         for _ in 0..500 {
-            match command.output() {
+            match output(&mut command) {
                 Err(busy) if busy.raw_os_error() == Some(26) => sleep(Duration::from_millis(10)),
                 answer => return Run::from(answer.unwrap()),
             }
@@ -280,27 +281,22 @@ fn a_full_disk() {
 #[test]
 fn a_closed_pipe() {
     let folder = Folder::new("pipe");
-    let run = || {
-        let mut command = folder.command(&["list", "-"]);
-        command
-            .stdin(Stdio::piped())
-            .stdout(Stdio::piped())
-            .stderr(Stdio::piped());
-        let mut child = command.spawn().unwrap();
-        drop(child.stdout.take());
-        child.stdin.take().unwrap().write_all(&report()).unwrap();
-        Run::from(child.wait_with_output().unwrap())
-    };
-    let closed = Run::of(2, "", "g719: output not written: Broken pipe (os error 32)\n");
-    // A test beside this one that starts a program at the very moment of the drop holds the pipe's end open until
-    // that program runs: then the pipe is not closed, and the next one is.
-    for _ in 0..50 {
-        if run() == closed {
-            return;
-        }
-        sleep(Duration::from_millis(10));
-    }
-    assert_eq!(run(), closed);
+    let mut command = folder.command(&["list", "-"]);
+    command
+        .stdin(Stdio::piped())
+        .stdout(Stdio::piped())
+        .stderr(Stdio::piped());
+    // alone, so that no program that a test beside this one starts holds the pipe's end open
+    let alone = STARTING.write().unwrap_or_else(PoisonError::into_inner);
+    let mut child = command.spawn().unwrap();
+    drop(child.stdout.take());
+    drop(alone);
+    child.stdin.take().unwrap().write_all(&report()).unwrap();
+    let run = Run::from(child.wait_with_output().unwrap());
+    assert_eq!(
+        run,
+        Run::of(2, "", "g719: output not written: Broken pipe (os error 32)\n")
+    );
 }
 
 /// Behind a link the file is replaced and the link stays; a folder is not written to.

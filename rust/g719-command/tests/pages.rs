@@ -3,7 +3,7 @@
 mod runs;
 
 use g719::{Frame, Mode, BANDS, FRAME_BYTES};
-use runs::{frame, recording, report, Folder, Run};
+use runs::{frame, output, recording, report, Folder, Run};
 use std::fs::File;
 use std::path::Path;
 use std::process::Command;
@@ -17,11 +17,8 @@ fn listed(file: &Path) -> String {
         "target/bin/lister is missing: run tools/build lister"
     );
     let mut command = Command::new(top.join("tests/start"));
-    let output = command
-        .arg(lister)
-        .stdin(File::open(file).unwrap())
-        .output()
-        .unwrap();
+    command.arg(lister).stdin(File::open(file).unwrap());
+    let output = output(&mut command).unwrap();
     assert!(output.status.success() && output.stderr.is_empty(), "{output:?}");
     String::from_utf8(output.stdout).unwrap()
 }

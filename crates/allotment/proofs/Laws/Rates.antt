@@ -43,12 +43,12 @@ module _ (transient wide : Bool) (norms : List ℕ) (budget : ℕ) where
   unfolding shares_of
   shares_yes t h = rw (t, le-leb budget 2560 h)
 
-  shares_norm : in_range norms 44 ≡ false
+  pub shares_norm : in_range norms 44 ≡ false
       → ◌≡◌ {A = Shares} (record { reply = out_of_range; rates = replicate 44 0; left = 0; rounds = 0 }) (shares_of transient wide norms budget)
   unfolding shares_of
   shares_norm t = rw t
 
-  shares_budget : 2560 < budget → ◌≡◌ {A = Shares} (record { reply = out_of_range; rates = replicate 44 0; left = 0; rounds = 0 }) (shares_of transient wide norms budget)
+  pub shares_budget : 2560 < budget → ◌≡◌ {A = Shares} (record { reply = out_of_range; rates = replicate 44 0; left = 0; rounds = 0 }) (shares_of transient wide norms budget)
   unfolding shares_of
   shares_budget h = rw (lt-leb budget 2560 h, and-false (in_range norms 44))
 

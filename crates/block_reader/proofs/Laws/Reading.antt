@@ -17,8 +17,8 @@ use Rattle.frame.specs.Answers.{read_answer, reading_of, stopped_at}
 use Rattle.frame.specs.declared.Reading.{Reading}
 use Rattle.recording.specs.Walk.{passes, stored_at}
 use Rattle.recording.proofs.Laws.Reads.{lent}
-use Rattle.recording.specs.Blocks.{block_step}
-use Rattle.recording.specs.Told.{step_reply, told}
+use Rattle.recording.specs.Blocks.{block_step, step_reply}
+use Rattle.recording.specs.Told.{told}
 use Rattle.std.specs.Prelude.{Result, Ok, Err}
 use Rattle.ground.specs.Numbered.{reply_of}
 use Rattle.ground.specs.declared.replies.Reply.{Reply}

@@ -13,8 +13,7 @@ use Rattle.ground.proofs.Laws.Refusals.{numbers, first_number, numbers_append}
 use Rattle.ground.proofs.Laws.PrintedTables.{every, every_at}
 use Rattle.frame.specs.declared.Record.{Record}
 use Rattle.recording.specs.Walk.{Step, stops, passes}
-use Rattle.recording.specs.Blocks.{block_step}
-use Rattle.recording.specs.Told.{step_reply}
+use Rattle.recording.specs.Blocks.{block_step, step_reply}
 use Rattle.recording.proofs.Laws.Blocks.{block_stops}
 use Rattle.writer.specs.Writes.{write_causes}
 use Rattle.frames.specs.Rooms.{room_causes}

@@ -46,8 +46,7 @@ use Rattle.recording.specs.Walk.{Step, stops, passes, stored_at}
 use Rattle.recording.proofs.Laws.Walk.{stored_started}
 use Rattle.recording.specs.Frames.{Stored, bare, full, Frames}
 use Rattle.recording.proofs.Laws.Frames.{stored_front, bare_says}
-use Rattle.recording.specs.Blocks.{block_step}
-use Rattle.recording.specs.Told.{step_reply}
+use Rattle.recording.specs.Blocks.{block_step, step_reply}
 use Rattle.recording.proofs.Laws.Blocks.{block_front, block_told, block_stops}
 use Rattle.frames.specs.Places.{size_at, place_of, frame_at, zeroed}
 use Rattle.frames.proofs.Laws.Frames.{placed, frame_stored, frame_in, frames_made, frames_back}

@@ -2,7 +2,7 @@
 -- Assumes nothing.
 use mathlib.Core.Path.{◌≡◌, refl, sym, ap, ◌∙◌}
 use mathlib.Core.List.{List, [], ◌∷◌, ◌++◌}
-use Prim.Native.Nat.{ℕ, zero, suc, ◌+◌, ◌-◌, ◌/◌, ◌%◌, ◌^◌, ◌*◌, ◌≤◌, ◌<◌, max}
+use Prim.Native.Nat.{ℕ, zero, suc, ◌+◌, ◌-◌, ◌/◌, ◌%◌, ◌^◌, ◌*◌, ◌≤◌, ◌<◌}
 use native.Mathlib.Nat.{pow-suc}
 use native.Mathlib.Omega.{arith}
 use borrow.Author.Tests.{ltb-true, ltb-false, lt-ltb, le-ltb}
@@ -65,13 +65,20 @@ width (suc k) n g h =
     let b : n / 10 < 10 ^ suc k = omega (arith, pow-suc 10 (suc k)) in
     decimal_more n (omega (arith, pow-suc 10 k, ten_pos k)) ∙ ap (λ (l : List ℕ). l ++ (digit (n % 10) ∷ [])) (width k (n / 10) a b)
 
--- as many as the power of ten tells that is next below it, and 0 has one
-pub width_told : (n r m : ℕ) → m ≡ max n 1 → 10 ^ r ≤ m → m < 10 * 10 ^ r → decimal n ≡ digits (r + 1) n
-width_told zero zero m e g h = width_one 0 (omega arith)
-width_told zero (suc r) m e g h = absurd (omega (arith, pow-suc 10 r, ten_pos r))
-width_told (suc n) r m e g h =
+pub width_two : (n : ℕ) → 10 ≤ n → n < 100 → decimal n ≡ digits 2 n
+width_two n g h = width 1 n (omega arith) (omega arith)
+
+pub width_three : (n : ℕ) → 100 ≤ n → n < 1000 → decimal n ≡ digits 3 n
+width_three n g h = width 2 n (omega arith) (omega arith)
+
+pub width_four : (n : ℕ) → 1000 ≤ n → n < 10000 → decimal n ≡ digits 4 n
+width_four n g h = width 3 n (omega arith) (omega arith)
+
+-- as many as the power of ten tells that is next below it
+pub width_more : (n r : ℕ) → 10 ^ r ≤ n → n < 10 * 10 ^ r → decimal n ≡ digits (r + 1) n
+width_more n r g h =
     let q : suc r ≡ r + 1 = omega arith in
-    width r (suc n) (omega arith) (omega (arith, pow-suc 10 r)) ∙ ap (λ (k : ℕ). digits k (suc n)) q
+    width r n g (omega (arith, pow-suc 10 r)) ∙ ap (λ (k : ℕ). digits k n) q
 
 -- ---- digits put from the last to the first
 

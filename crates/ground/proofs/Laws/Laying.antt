@@ -1,13 +1,13 @@
 -- Texts laid one after the other are laid at once; the loop that lays a text byte by byte.
 -- Assumes nothing.
 use mathlib.Core.Path.{◌≡◌, refl, sym, ap, ap₂, ◌∙◌}
-use mathlib.Core.List.{List, [], ◌∷◌, ◌++◌, append_assoc}
-use Prim.Native.Nat.{ℕ, suc, ◌+◌, ◌-◌, ◌≤◌}
+use mathlib.Core.List.{List, [], ◌∷◌, ◌++◌}
+use Prim.Native.Nat.{ℕ, suc, ◌+◌, ◌≤◌, ◌<◌}
 use native.Mathlib.Nat.{add-zero, suc-add, add-suc}
+use native.Mathlib.Numerals.{add-one}
 use native.Mathlib.Omega.{arith}
-use lib.ListN.{length, set, take, drop, length-append}
-use lib.Seq.{sets, sets-eq, length-sets, set_comm}
-use borrow.Rule.Slice.PartMut.{put_mid, Post-is}
+use lib.ListN.{length, get_or, set, take, drop, length-append}
+use lib.Seq.{sets, sets-eq, length-sets, set_comm, take-suc, length-take-le, take_all}
 use Rattle.ground.specs.Laying.{laid_text, TextLaid}
 
 pub length_laid : (s : List ℕ) (at : ℕ) (t : List ℕ) → length (laid_text s at t) ≡ length s
@@ -53,10 +53,28 @@ module _ {s t s' : List ℕ} {at next : ℕ} (l : TextLaid s at t s' next) where
         bytes = m.bytes ∙ ap₂ (λ (x : List ℕ) (k : ℕ). laid_text x k u) l.bytes l.after ∙ laid_append s at t u;
       }
 
--- a text copied over the bytes from a place on
-pub copied_over : (s : List ℕ) (at : ℕ) (t t' : List ℕ) → at + length t ≤ length s → t' ≡ t
-    → TextLaid s at t (put_mid at (at + length t - at) s t') (at + length t)
+-- ---- a text put byte after byte
+
+pub record Putting (s : List ℕ) (at : ℕ) (t s' : List ℕ) (i : ℕ) : Type 0 where
+  pub upto : i ≤ length t
+  pub long : length s' ≡ length s
+  pub same : s' ≡ laid_text s at (take i t)
+
+pub put_start : (s : List ℕ) (at : ℕ) (t : List ℕ) → Putting s at t s 0
 unfolding laid_text
-copied_over s at t t' h e =
-    let q : take at s ++ (t ++ drop (at + length t) s) ≡ sets s at t = sym (sets-eq t s at h ∙ append_assoc (take at s) t (drop (at + length t) s)) in
-    record { after = refl; bytes = ap₂ (λ (x y : List ℕ). take at s ++ (x ++ y)) e (Post-is at (at + length t) s (omega arith)) ∙ q }
+put_start s at t = record { upto = omega arith; long = refl; same = refl }
+
+pub put_turn : (s : List ℕ) (at : ℕ) (t s' : List ℕ) (i : ℕ) → i < length t → Putting s at t s' i → Putting s at t (set s' (at + i) (get_or t i 0)) (i + 1)
+unfolding laid_text
+put_turn s at t s' i h p =
+    let e : at + length (take i t) ≡ at + i = omega (arith, length-take-le i t (omega arith)) in
+    let q : set s' (at + i) (get_or t i 0) ≡ laid_text s at (take (i + 1) t) =
+    ap₂ (λ (l : List ℕ) (k : ℕ). set l k (get_or t i 0)) p.same (sym e)
+    ∙ laid_append s at (take i t) (get_or t i 0 ∷ [])
+    ∙ ap (laid_text s at) (sym (take-suc t i 0 h) ∙ ap (λ (k : ℕ). take k t) (sym (add-one i))) in
+    record { upto = omega arith; long = ap length q ∙ length_laid s at (take (i + 1) t); same = q }
+
+pub put_end : (s : List ℕ) (at : ℕ) (t s' : List ℕ) (i : ℕ) → length t ≤ i → Putting s at t s' i → TextLaid s at t s' (at + i)
+put_end s at t s' i h p =
+    let e : i ≡ length t = omega (arith, p.upto) in
+    record { after = ap (λ (k : ℕ). at + k) e; bytes = p.same ∙ ap (laid_text s at) (take_all i t h) }

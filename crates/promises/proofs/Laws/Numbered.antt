@@ -1,6 +1,6 @@
 -- The numbers that each call can answer.
 -- Assumes nothing.
-use mathlib.Core.Path.{◌≡◌, refl, sym, ap, subst}
+use mathlib.Core.Path.{◌≡◌, refl, sym, ap, subst, ◌∙◌}
 use mathlib.Core.Bool.{Bool, true, false, ◌&&◌}
 use mathlib.Core.List.{List, [], ◌∷◌, ◌++◌, map}
 use mathlib.Core.Option.{Option, some, none}
@@ -18,6 +18,8 @@ use Rattle.bits.specs.Codecs.{read_all}
 use Rattle.words.specs.Tables.{coding}
 use Rattle.words.specs.Answers.{placed, word_at, number_of}
 use Rattle.runs.specs.Runs.{run_at, ran, passed_up, run_reply}
+use Rattle.runs.proofs.Laws.Runs.{placed_no, stops_behind, run_done}
+use Rattle.std.proofs.lemmas.List.{map-append}
 use Rattle.std.specs.Prelude.{Result, Ok, Err}
 use Rattle.bits.specs.declared.Refusal.{Refusal}
 use Rattle.ground.specs.declared.replies.Reply.{Reply}
@@ -247,6 +249,19 @@ run_refused s at end kind kinds x e = go (unword (coding kind) (view s at (end -
     go (got v r) q d = absurd (cc)
     go (no y) q d = let z : y ≡ x = cc in rw q (ap Err z)
 
+pub run_stopped : (s : List ℕ) (at end p kind : ℕ) (before after : List ℕ) (x : Refusal) → Ok p ≡ ran at (end - at) (run_at s at end before)
+    → Err x ≡ word_at s p end kind
+    → (ran at (end - at) (run_at s at end (before ++ (kind ∷ after))) ≡ Err x)
+    × (run_reply (ran at (end - at) (run_at s at end (before ++ (kind ∷ after)))) ≡ number_of (word_at s p end kind))
+unfolding run_at word_at
+run_stopped s at end p kind before after x d e =
+    let (vs, g, n₁, n₂, n₃, n₄) = run_done s at end before [] p d in
+    let n = placed_no p (end - p) (unword (coding kind) (view s p (end - p))) x e in
+    let z = stops_behind (map coding before) (coding kind) (map coding after) (view s at (end - at)) vs (view s p (end - p)) x g n in
+    let stop : ran at (end - at) (read_all (map coding (before ++ (kind ∷ after))) (view s at (end - at))) ≡ Err x =
+    rw (map-append coding before (kind ∷ after), z) refl in
+    (stop, ap run_reply stop ∙ ap number_of e)
+
 -- ---- norms, weights, shares and points: 0, 8
 
 abbrev two : List ℕ
@@ -320,4 +335,5 @@ numbered =
       word = word_number;
       run = word_passed;
       run_refused = run_refused;
+      run_stopped = run_stopped;
     }

@@ -25,8 +25,8 @@ use Rattle.recording.proofs.Laws.Units.{LawfulUnit}
 use Rattle.recording.specs.Frames.{Stored, Frames}
 use Rattle.recording.proofs.Laws.Frames.{frame_unit}
 use Rattle.recording.proofs.Laws.Reads.{refused_low}
-use Rattle.recording.specs.Told.{told, step_reply}
-use Rattle.recording.specs.Blocks.{further, in_block, followed, is_count, block_step, check_blocks}
+use Rattle.recording.specs.Told.{told}
+use Rattle.recording.specs.Blocks.{further, in_block, followed, is_count, block_step, step_reply, check_blocks}
 
 module _ (n : ℕ) (s : List ℕ) where
   -- the block by its first frame

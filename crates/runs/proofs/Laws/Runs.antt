@@ -31,7 +31,7 @@ placed_at at left (got x r) w e =
     (r, ap (λ (u : Word). got u.number r) (sym ew), ap (λ (u : Word). u.next) ew)
 placed_at at left (no x) w e = absurd (let z : ◌≡◌ {A = ℕ} 0 1 = cc in omega arith)
 
-placed_no : (at left : ℕ) (g : Answer ℕ) (x : Refusal) → Err x ≡ placed at left g → g ≡ no x
+pub placed_no : (at left : ℕ) (g : Answer ℕ) (x : Refusal) → Err x ≡ placed at left g → g ≡ no x
 placed_no at left (got v r) x e = absurd (let z : ◌≡◌ {A = ℕ} 0 1 = cc in omega arith)
 placed_no at left (no y) x e = let q : y ≡ x = cc in ap no q
 
@@ -176,6 +176,19 @@ some_got (c ∷ cs) b vs r e =
     let (ws, q, e₃, e₄) = and_then_got (read_all cs r₁) (λ ws z. got (v ∷ ws) z) vs r e₂ in
     let ev : v ∷ ws ≡ vs = cc in
     ap (λ (g : Answer ℕ). more g (some_of cs)) e₁ ∙ ap (λ (l : List ℕ). v ∷ l) (some_got cs r₁ ws q e₃) ∙ ev
+
+-- behind words that are read, a word that is refused refuses the run, whatever words would follow
+pub stops_behind : (cs : List Coding) (c : Coding) (ds : List Coding) (b : List Bool) (vs : List ℕ) (r : List Bool) (x : Refusal)
+    → read_all cs b ≡ got vs r → unword c r ≡ no x → read_all (cs ++ (c ∷ ds)) b ≡ no x
+unfolding read_all
+stops_behind [] c ds b vs r x e n =
+    let q : b ≡ r = cc in
+    rw (q, n) refl
+stops_behind (k ∷ cs) c ds b vs r x e n =
+    let (v, r₁, e₁, e₂) = and_then_got (unword k b) (λ v q. and_then (read_all cs q) (λ ws z. got (v ∷ ws) z)) vs r e in
+    let (ws, q, e₃, e₄) = and_then_got (read_all cs r₁) (λ ws z. got (v ∷ ws) z) vs r e₂ in
+    let qr : q ≡ r = cc in
+    rw (e₁, stops_behind cs c ds r₁ ws r x (e₃ ∙ ap (got ws) qr) n) refl
 
 module _ (s : List ℕ) (at end : ℕ) (kinds out : List ℕ) where
   -- a run to the next place p: its numbers are laid over the slice, and what is left stands from p on

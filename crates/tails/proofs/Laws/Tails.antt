@@ -61,13 +61,15 @@ module _ {s : List ℕ} {at : ℕ} {t₀ : List ℕ} where
     pub fill_turn : {v : ℕ} → i < 320 → 320 ≤ length t₀ → v ≡ val (view s (at + i * 8) 8) → Filling s at t₀ (set t i v) (i + 1)
     fill_turn h l e = record { upto = omega arith; front = fronted_more I.front (omega arith) e }
 
-    pub fill_end : 320 ≤ i → length t₀ ≤ 320 → t ≡ tail_from s at
+    pub fill_end : 320 ≤ i → t ≡ tail_from s at ++ drop 320 t₀
     unfolding tail_from
-    fill_end h l =
+    fill_end h =
         let e : i ≡ 320 = omega (arith, I.upto) in
-        let none : drop i t₀ ≡ [] = drop_of_length-le t₀ (omega arith) in
-        I.front.same ∙ ap₂ (λ (k : ℕ) (r : List ℕ). table k (λ (j : ℕ). val (view s (at + j * 8) 8)) ++ r) e none
-        ∙ append-nil (table 320 (λ (j : ℕ). val (view s (at + j * 8) 8)))
+        I.front.same ∙ ap (λ (k : ℕ). table k (λ (j : ℕ). val (view s (at + j * 8) 8)) ++ drop k t₀) e
+
+    -- of 320 bytes alone
+    pub fill_front : 320 ≤ i → length t₀ ≤ 320 → t ≡ tail_from s at
+    fill_front h l = fill_end h ∙ ap (λ (r : List ℕ). tail_from s at ++ r) (drop_of_length-le t₀ l) ∙ append-nil (tail_from s at)
 
 -- ---- clear
 

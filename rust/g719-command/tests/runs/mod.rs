@@ -6,7 +6,8 @@ use std::ffi::OsStr;
 use std::fs;
 use std::io::Write;
 use std::path::{Path, PathBuf};
-use std::process::{Command, Output, Stdio};
+use std::process::{Child, Command, Output, Stdio};
+use std::sync::{PoisonError, RwLock};
 
 /// What a run printed, said on standard error, and its status.
 #[derive(Debug, PartialEq)]
@@ -50,6 +51,22 @@ pub fn command_by(words: &[String]) -> Command {
     let mut command = Command::new(&words[0]);
     command.args(&words[1..]).stdin(Stdio::null());
     command
+}
+
+/// A program that is being started holds a copy of every end of a pipe that this process has. So whoever starts one
+/// holds this with others, and whoever needs an end closed for good holds it alone.
+pub static STARTING: RwLock<()> = RwLock::new(());
+
+/// Starts a program; once it runs it holds no end of a pipe but its own.
+pub fn start(command: &mut Command) -> std::io::Result<Child> {
+    let _starting = STARTING.read().unwrap_or_else(PoisonError::into_inner);
+    command.spawn()
+}
+
+/// What a program says that is started with no input of ours.
+pub fn output(command: &mut Command) -> std::io::Result<Output> {
+    command.stdout(Stdio::piped()).stderr(Stdio::piped());
+    start(command)?.wait_with_output()
 }
 
 pub fn built() -> &'static Path {
@@ -99,7 +116,7 @@ impl Folder {
     }
 
     pub fn run(&self, words: &[&str]) -> Run {
-        self.command(words).output().expect("a run").into()
+        output(&mut self.command(words)).expect("a run").into()
     }
 
     /// A run with bytes on standard input.
@@ -109,7 +126,7 @@ impl Folder {
             .stdin(Stdio::piped())
             .stdout(Stdio::piped())
             .stderr(Stdio::piped());
-        let mut child = command.spawn().expect("a run");
+        let mut child = start(&mut command).expect("a run");
         let mut pipe = child.stdin.take().expect("a pipe");
         // what is not read to its end closes the pipe
         let _ = pipe.write_all(input);
@@ -124,12 +141,8 @@ impl Folder {
             .args(["-c", script, "bash"])
             .args(started(built()))
             .args(words);
-        command
-            .current_dir(&self.0)
-            .stdin(Stdio::null())
-            .output()
-            .expect("a run")
-            .into()
+        command.current_dir(&self.0).stdin(Stdio::null());
+        output(&mut command).expect("a run").into()
     }
 }
 

@@ -1,7 +1,12 @@
--- `ground::bytes::put` meets its contract: a copy over a part is the text laid. Assumes nothing.
-use Rattle.ground.proofs.Laws.Laying.{copied_over}
+-- `ground::bytes::put` meets its contract: the bytes so far are laid. Assumes nothing.
+use native.Mathlib.Omega.{arith}
+use Rattle.ground.proofs.Laws.Laying.{put_start, put_turn}
 use Rattle.ground.proofs.bytes.put.Goals as goal
 
-pub returns : goal.returns
-returns c =
-    copied_over _ _ _ _ c.requires c.copy_from_slice.ensures.after
+pub loop-i-init : goal.loop-i-init
+loop-i-init c =
+    put_start _ _ _
+
+pub loop-i-preserved : goal.loop-i-preserved
+loop-i-preserved c =
+    put_turn _ _ _ _ _ (omega arith) c.loop-i.invariant
