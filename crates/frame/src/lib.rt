@@ -175,6 +175,10 @@ fn read_frame(src: &[u8], found: &mut [u16]) -> Reading
 pub fn read_record(src: &[u8]) -> Reading
     ensures { result ≡ reading_of (started (prefix_of src.now) src.now) }
 {
+    // An empty frame needs no room for codes, and a recording may have many.
+    if let Prefix::NoData = prefix::read_prefix(src) {
+        return refusal(Reply::NoData, 1);
+    }
     let mut found = [0u16; 800];
     read_frame(src, &mut found)
 }
