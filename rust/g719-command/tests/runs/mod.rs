@@ -63,7 +63,7 @@ pub fn start(command: &mut Command) -> std::io::Result<Child> {
     command.spawn()
 }
 
-/// What a program says that is started with no input of ours.
+/// What a program says; the caller has told it its input.
 pub fn output(command: &mut Command) -> std::io::Result<Output> {
     command.stdout(Stdio::piped()).stderr(Stdio::piped());
     start(command)?.wait_with_output()
